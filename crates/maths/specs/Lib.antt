@@ -1,2 +1,3 @@
 pub mod Rules
 pub mod Sums
+pub mod Tasks

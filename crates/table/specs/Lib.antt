@@ -1,3 +1,4 @@
 pub mod Limits
 pub mod Tasks
 pub mod Refused
+pub mod Good

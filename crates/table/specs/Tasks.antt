@@ -1,6 +1,7 @@
 -- The names of the report for what a table holds: M, A of the platform (P of document 01), and task k, numbered from 1.
-use Prim.Native.Nat.{ℕ, _-_}
-use lib.ListN.{getD, replicate}
+use Prim.Native.Nat.{ℕ}
+use lib.ListN.{replicate}
+use Rattle.maths.specs.Tasks.{entry}
 use Rattle.table.specs.declared.Platform.{Platform}
 use Rattle.table.specs.declared.Task.{Task}
 use Rattle.table.specs.declared.Table.{Table}
@@ -22,7 +23,7 @@ P t = t .platform .partitions .0
 
 -- task k, for k from 1 to n
 abbrev pub τ : Table → ℕ → Task
-τ t k = getD (t .rows) (k - 1) noTask
+τ t k = entry (t .rows) k noTask
 
 abbrev pub D : Task → ℕ
 D τ = τ .d

@@ -1,0 +1,84 @@
+-- A table that is not refused is good.
+use Prim.Native.Nat.{ℕ, zero, suc, _+_, _<_, _≤_}
+use mathlib.Core.Path.{_≡_, refl, sym, _∙_, ap}
+use mathlib.Core.Bool.{Bool, true, false, cond}
+use mathlib.Core.List.{List, [], _∷_}
+use native.Mathlib.Nat.{not-suc-le-zero, le-of-suc-le-suc}
+use native.Mathlib.Omega.{arith}
+use borrow.Author.Tests.{ltb-false, eqb-false, eqb-true, eq-eqb, ne-eqb, le-ltb}
+use lib.Dec.{eqb}
+use lib.ListN.{length, getD, take, length-take}
+use lib.Seq.{getD-take}
+use Rattle.maths.specs.Rules.{first}
+use Rattle.maths.proofs.Tests.{not-given, not-outside, positive}
+use Rattle.table.specs.declared.Task.{Task}
+use Rattle.table.specs.declared.Table.{Table}
+use Rattle.table.specs.declared.Refusal.{Refusal}
+use Rattle.table.specs.Limits.{mostTasks}
+use Rattle.table.specs.Tasks.{noTask, M, P, τ, D, T, C, A}
+use Rattle.table.specs.Refused.{tableRules, rowRules, rowRefusal, rowsFrom, refusal}
+use Rattle.table.specs.Good.{Good, GoodRow}
+
+good-row : (p : ℕ) (τ : Task) → rowRefusal p τ ≡ 0 → GoodRow p τ
+unfolding rowRules
+good-row p τ e =
+    let r4 = not-given _ 3 _ e in
+    let r5 = not-given _ 4 _ (r4 .1) in
+    let r6 = not-given _ 5 _ (r5 .1) in
+    let r7 = not-given _ 6 _ (r6 .1) in
+    let r8 = not-given _ 7 _ (r7 .1) in
+    let period = not-outside _ _ _ (r4 .0) in
+    record {
+      period = period .0;
+      short = period .1;
+      runs = positive (C τ) (r5 .0);
+      slack = ltb-false (D τ) (C τ) (r6 .0);
+      deadline = ltb-false (T τ) (D τ) (r7 .0);
+      room = ltb-false p (A τ) (r8 .0);
+    }
+
+rows-good : (p k : ℕ) (τs : List Task) → rowsFrom p k τs .number ≡ 0 → (i : ℕ) → i < length τs → rowRefusal p (getD τs i noTask) ≡ 0
+unfolding rowsFrom
+rows-good p k [] e i l = absurd (not-suc-le-zero l)
+rows-good p k (τ ∷ τs) e i l = by (eqb (rowRefusal p τ) 0) refl i l (λ q j m. rows-good p (suc k) τs q j m) e
+  where
+    by : (b : Bool) → eqb (rowRefusal p τ) 0 ≡ b → (i : ℕ) → i < suc (length τs)
+        → (rowsFrom p (suc k) τs .number ≡ 0 → (j : ℕ) → j < length τs → rowRefusal p (getD τs j noTask) ≡ 0)
+        → cond b (rowsFrom p (suc k) τs) (record { number = rowRefusal p τ; row = k }) .number ≡ 0
+        → rowRefusal p (getD (τ ∷ τs) i noTask) ≡ 0
+    by true w zero l rec e = eqb-true (rowRefusal p τ) 0 w
+    by true w (suc i) l rec e = rec e i (le-of-suc-le-suc l)
+    by false w i l rec e = absurd (eqb-false (rowRefusal p τ) 0 w e)
+
+-- no rule of the table itself is given, and none of a row
+passed : (t : Table) → refusal t .number ≡ 0 → (first tableRules t ≡ 0) × (rowsFrom (P t) 1 (take (t .n) (t .rows)) .number ≡ 0)
+unfolding refusal
+passed t e = by (eqb (first tableRules t) 0) refl e
+  where
+    by : (b : Bool) → eqb (first tableRules t) 0 ≡ b
+        → cond b (rowsFrom (P t) 1 (take (t .n) (t .rows))) (record { number = first tableRules t; row = 0 }) .number ≡ 0
+        → (first tableRules t ≡ 0) × (rowsFrom (P t) 1 (take (t .n) (t .rows)) .number ≡ 0)
+    by true w e = (eqb-true (first tableRules t) 0 w, e)
+    by false w e = absurd (eqb-false (first tableRules t) 0 w e)
+
+pub good-of : (t : Table) → length (t .rows) ≡ mostTasks → refusal t .number ≡ 0 → Good t
+unfolding tableRules
+good-of t len e =
+    let both = passed t e in
+    let r1 = not-given _ 0 _ (both .0) in
+    let r2 = not-given _ 1 _ (r1 .1) in
+    let r3 = not-given _ 2 _ (r2 .1) in
+    let n = not-outside _ _ _ (r1 .0) in
+    let m = not-outside _ _ _ (r2 .0) in
+    let p = not-outside _ _ _ (r3 .0) in
+    record {
+      some = n .0;
+      few = n .1;
+      core = m .0;
+      cores = m .1;
+      partition = p .0;
+      partitions = p .1;
+      row = λ i l.
+          good-row (P t) (τ t (suc i))
+          (rw (getD-take (t .n) (t .rows) i noTask l) at (rows-good (P t) 1 (take (t .n) (t .rows)) (both .1) i (simp length-take (omega arith))));
+    }

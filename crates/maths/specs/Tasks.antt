@@ -2,7 +2,6 @@
 use Prim.Native.Nat.{ℕ, zero, suc}
 use mathlib.Core.Bool.{Bool, true, false, cond, _&&_}
 use mathlib.Core.List.{List, [], _∷_, _++_}
-use lib.Dec.{eqb}
 use lib.ListN.{getD}
 
 -- f holds of each of 1 to n
@@ -10,10 +9,15 @@ unfoldable pub every : ℕ → (ℕ → Bool) → Bool
 every zero f = true
 every (suc n) f = every n f && f (suc n)
 
+-- x, or y where x is 0
+abbrev pub orElse : ℕ → ℕ → ℕ
+orElse zero y = y
+orElse (suc x) y = suc x
+
 -- the lowest of 1 to n of which f holds, or 0
 unfoldable pub lowest : ℕ → (ℕ → Bool) → ℕ
 lowest zero f = 0
-lowest (suc n) f = cond (eqb (lowest n f) 0) (cond (f (suc n)) (suc n) 0) (lowest n f)
+lowest (suc n) f = orElse (lowest n f) (cond (f (suc n)) (suc n) 0)
 
 -- f 1, f 2, .. , f n
 unfoldable pub tabulate : {A : Type 0} → ℕ → (ℕ → A) → List A

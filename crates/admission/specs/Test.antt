@@ -1,0 +1,63 @@
+-- The second test of the report (theorem 2, equation 9), multiplied by M × B so that no fraction is left.
+-- Tasks k and i are numbered from 1; the report's A, the partitions of the platform, is document 01's P.
+use Prim.Native.Nat.{ℕ, zero, suc, _+_, _-_, _*_, _/_, max}
+use mathlib.Core.Bool.{Bool, true, false, not}
+use lib.IntN.{ℤ, pos, negsuc, _-ℤ_}
+use Rattle.maths.specs.Sums.{Σ}
+use Rattle.maths.specs.Tasks.{every, lowest}
+use Rattle.table.specs.declared.Task.{Task}
+use Rattle.table.specs.declared.Table.{Table}
+use Rattle.table.specs.Tasks.{M, P, τ, D, T, C, A}
+
+-- slack S_k = D_k − C_k (section 3.2)
+abbrev pub S : Table → ℕ → ℕ
+S t k = D (τ t k) - C (τ t k)
+
+-- A_k^max, the largest A_i with i ≤ k (section 4.2.2)
+unfoldable pub Amax : Table → ℕ → ℕ
+Amax t zero = 0
+Amax t (suc k) = max (Amax t k) (A (τ t (suc k)))
+
+-- A − A_k^max + 1: so many busy partitions may block task k (section 4.2.2, lemma 1)
+abbrev pub B : Table → ℕ → ℕ
+B t k = P t - Amax t k + 1
+
+-- interference of task i on task k, I_k^i = (⌊S_k / T_i⌋ + 2) · C_i (equation 3)
+unfoldable pub interference : Table → ℕ → ℕ → ℕ
+interference t k i = (S t k / T (τ t i) + 2) * C (τ t i)
+
+-- max(1 / M, A_i / B) of theorem 2, times M × B
+abbrev pub weight : Table → ℕ → ℕ → ℕ
+weight t k i = max (B t k) (M t * A (τ t i))
+
+-- χ*_k of theorem 2, times M × B
+unfoldable pub load : Table → ℕ → ℕ
+load t k = Σ (t .n) (λ i. weight t k i * interference t k i)
+
+-- S_k of equation 9, times M × B
+unfoldable pub limit : Table → ℕ → ℕ
+limit t k = M t * B t k * S t k
+
+-- a less b, a signed number
+unfoldable pub less : ℕ → ℕ → ℤ
+less a b = pos a -ℤ pos b
+
+abbrev pub margin : Table → ℕ → ℤ
+margin t k = less (limit t k) (load t k)
+
+abbrev pub above0 : ℤ → Bool
+above0 (pos zero) = false
+above0 (pos (suc n)) = true
+above0 (negsuc n) = false
+
+-- equation 9 for task k
+abbrev pub passes : Table → ℕ → Bool
+passes t k = above0 (margin t k)
+
+-- theorem 2: every task passes
+abbrev pub admitted : Table → Bool
+admitted t = every (t .n) (passes t)
+
+-- the first task that does not pass, or 0
+abbrev pub firstFailing : Table → ℕ
+firstFailing t = lowest (t .n) (λ k. not (passes t k))

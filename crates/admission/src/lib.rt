@@ -43,19 +43,23 @@ fn interferes(t: Table, k: usize, i: usize) -> u64
     (jobs as u64) * (row.c as u64)
 }
 
+// The weight of task i + 1 in the load of task k + 1, whose B is b.
+fn weighs(t: Table, k: usize, b: u32, i: usize) -> u32
+    requires { ⌜ (Good t) × (k < t .n) × (i < t .n) × (b ≡ B t (suc k)) ⌝ }
+    ensures { λ r. ⌜ r ≡ weight t (suc k) (suc i) ⌝ }
+{
+    let row = t.rows[i];
+    let share = t.platform.cores.0 * row.a.0;
+    if share < b { b } else { share }
+}
+
 // What task i + 1 adds to the load of task k + 1, whose B is b.
 fn term(t: Table, k: usize, b: u32, i: usize) -> u64
     requires { ⌜ (Good t) × (k < t .n) × (i < t .n) × (b ≡ B t (suc k)) ⌝ }
     ensures { λ r. ⌜ r ≡ weight t (suc k) (suc i) * interference t (suc k) (suc i) ⌝ }
 {
-    let row = t.rows[i];
-    let x = interferes(t, k, i);
-    let w = t.platform.cores.0 * row.a.0;
-    if w < b {
-        (b as u64) * x
-    } else {
-        (w as u64) * x
-    }
+    let w = weighs(t, k, b, i);
+    (w as u64) * interferes(t, k, i)
 }
 
 // The load of task k + 1, whose B is b.

@@ -1,6 +1,7 @@
 -- The laws of finite sums, and their forms over tasks 1 to n. `sum` is opened here alone.
 use mathlib.Core.Path.{_≡_, refl}
 use Prim.Native.Nat.{ℕ, zero, suc, _+_, _*_, _≤_, _<_}
+use native.Mathlib.Numerals.{add-one}
 use native.Mathlib.Omega.{arith}
 use native.Mathlib.Decide.{decLt}
 use Rattle.maths.specs.Sums.{sum, Σ}
@@ -12,6 +13,10 @@ sum-zero f = refl
 pub sum-suc : (f : ℕ → ℕ) (n : ℕ) → sum f (suc n) ≡ sum f n + f n
 unfolding sum
 sum-suc f n = refl
+
+-- as a loop's `i + 1` has it
+pub sum-more : (f : ℕ → ℕ) (n : ℕ) → sum f (n + 1) ≡ sum f n + f n
+sum-more f n = rw (add-one n) (sum-suc f n)
 
 pub sum-mono : (f g : ℕ → ℕ) (n : ℕ) → ((i : ℕ) → i < n → f i ≤ g i) → sum f n ≤ sum g n
 unfolding sum
@@ -58,6 +63,16 @@ sum-one f (suc n) i l =
     elim (decLt i n) [
       | yes h ↦ omega (arith, sum-one f n i h)
       | no h ↦ let e : i ≡ n = omega arith in rw e (omega arith)
+    ]
+
+-- a sum of more values is no smaller
+pub sum-grows : (f : ℕ → ℕ) (i n : ℕ) → i ≤ n → sum f i ≤ sum f n
+unfolding sum
+sum-grows f i zero l = let z : i ≡ 0 = omega arith in rw z (omega arith)
+sum-grows f i (suc n) l =
+    elim (decLt i (suc n)) [
+      | yes h ↦ omega (arith, sum-grows f i n (omega arith))
+      | no h ↦ let z : i ≡ suc n = omega arith in rw z (omega arith)
     ]
 
 pub Σ-zero : (f : ℕ → ℕ) → Σ 0 f ≡ 0

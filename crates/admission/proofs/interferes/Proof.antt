@@ -1,9 +1,10 @@
+use native.Mathlib.Omega.{arith}
+use Rattle.maths.proofs.Widths.{fits-mul}
+use Rattle.admission.specs.Test.{interference}
+use Rattle.admission.proofs.Bounds.{jobs-le}
 use borrow.Author.Needs.{needs}
 use Rattle.admission.proofs.interferes.Statement.{statement}
 use Rattle.admission.proofs.interferes.Tie as tie
-use Rattle.admission.proofs.interferes.Reads as reads
-use Rattle.admission.proofs.interferes.Lts as lts
-use Rattle.admission.proofs.slack.Reads as slack-reads
 
 mul-row : tie.Need-mul-row
 mul-row c = search needs
@@ -15,22 +16,27 @@ slack-requires : tie.Need-slack-requires
 slack-requires c κs = search needs
 
 div-jobs : tie.Need-div-jobs
-div-jobs c = ?
+div-jobs c = let s = c .before .before .before in s .pre .0 .row (s .args .i) (s .pre .2) .period
 
 add-jobs : tie.Need-add-jobs
-add-jobs c = ?
+add-jobs c = let s = c .before .before .before in rw (c .before .slack .ensures) (omega (arith, jobs-le (s .pre .0) (s .args .k) (s .pre .1) (s .args .i) (s .pre .2)))
 
 cast-result : tie.Need-cast-result
-cast-result c = ?
+cast-result c = let s = c .before .before .before in rw (c .before .slack .ensures) (omega (arith, jobs-le (s .pre .0) (s .args .k) (s .pre .1) (s .args .i) (s .pre .2)))
 
 cast-result-2 : tie.Need-cast-result-2
 cast-result-2 c = search needs
 
 mul-result : tie.Need-mul-result
-mul-result c = ?
+mul-result c =
+    let s = c .before .before .before .before in
+    let r = s .pre .0 .row (s .args .i) (s .pre .2) in
+    rw (c .before .before .slack .ensures)
+    (fits-mul 65537 65535 tt (jobs-le (s .pre .0) (s .args .k) (s .pre .1) (s .args .i) (s .pre .2)) (omega arith))
 
 returns : tie.Need-returns
-returns c = ?
+unfolding interference
+returns c = rw (c .before .before .slack .ensures)
 
 pub interferes-spec : {M : Type 1} → statement M
 interferes-spec =

@@ -1,8 +1,6 @@
 use borrow.Author.Needs.{needs}
 use Rattle.admission.proofs.slack.Statement.{statement}
 use Rattle.admission.proofs.slack.Tie as tie
-use Rattle.admission.proofs.slack.Reads as reads
-use Rattle.admission.proofs.slack.Lts as lts
 
 mul-row : tie.Need-mul-row
 mul-row c = search needs
@@ -11,7 +9,7 @@ element-copy-out-row : tie.Need-element-copy-out-row
 element-copy-out-row c = search needs
 
 sub-result : tie.Need-sub-result
-sub-result c = ?
+sub-result c = c .before .before .pre .0 .row (c .before .before .args .k) (c .before .before .pre .1) .slack
 
 returns : tie.Need-returns
 returns c = search needs

@@ -1,47 +1,28 @@
+use Rattle.maths.proofs.Widths.{fits-mul}
+use Rattle.admission.proofs.Bounds.{weight-le, interference-le}
 use borrow.Author.Needs.{needs}
 use Rattle.admission.proofs.term.Statement.{statement}
 use Rattle.admission.proofs.term.Tie as tie
-use Rattle.admission.proofs.term.Reads as reads
-use Rattle.admission.proofs.term.Lts as lts
-use Rattle.admission.proofs.interferes.Reads as interferes-reads
 
-mul-row : tie.Need-mul-row
-mul-row c = search needs
+weighs-requires : tie.Need-weighs-requires
+weighs-requires c κs = search needs
 
-element-copy-out-row : tie.Need-element-copy-out-row
-element-copy-out-row c = search needs
+cast-result : tie.Need-cast-result
+cast-result c = search needs
 
 interferes-requires : tie.Need-interferes-requires
 interferes-requires c κs = search needs
 
-mul-w : tie.Need-mul-w
-mul-w c = ?
-
 mul-result : tie.Need-mul-result
-mul-result c = ?
-
-cast-result : tie.Need-cast-result
-cast-result c = ?
-
-mul-result-2 : tie.Need-mul-result-2
-mul-result-2 c = ?
+mul-result c =
+    let s = c .before .before in
+    rw (c .before .weighs .ensures, c .interferes .ensures)
+    (fits-mul 1024 4294967295 tt
+    (weight-le (s .pre .0) (s .args .k) (s .pre .1) (s .args .i) (s .pre .2))
+    (interference-le (s .pre .0) (s .args .k) (s .pre .1) (s .args .i) (s .pre .2)))
 
 returns : tie.Need-returns
-returns c = ?
-
-returns-2 : tie.Need-returns-2
-returns-2 c = ?
+returns c = rw (c .before .weighs .ensures, c .interferes .ensures)
 
 pub term-spec : {M : Type 1} → statement M
-term-spec =
-    tie.close
-    (tie.spec
-    mul-row
-    element-copy-out-row
-    interferes-requires
-    mul-w
-    mul-result
-    cast-result
-    mul-result-2
-    returns
-    returns-2)
+term-spec = tie.close (tie.spec weighs-requires cast-result interferes-requires mul-result returns)

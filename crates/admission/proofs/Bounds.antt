@@ -15,6 +15,10 @@ use Rattle.admission.specs.Test.{S, Amax, B, interference, weight, load,
 abbrev pub mostTerm : ℕ
 mostTerm = 4398046510080
 
+pub Amax-zero : (t : Table) → Amax t 0 ≡ 0
+unfolding Amax
+Amax-zero t = refl
+
 module _ {t : Table} (g : Good t) where
   pub Amax-le : (k : ℕ) → k ≤ t .n → Amax t k ≤ P t
   unfolding Amax

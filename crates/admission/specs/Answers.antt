@@ -11,6 +11,7 @@ use Rattle.table.specs.declared.Refusal.{Refusal}
 use Rattle.table.specs.Limits.{mostTasks}
 use Rattle.table.specs.Refused.{refusal}
 use Rattle.admission.specs.declared.FullAnswer.{FullAnswer}
+use Rattle.admission.specs.declared.Judged.{Judged}
 use Rattle.admission.specs.declared.QuickAnswer.{QuickAnswer}
 use Rattle.admission.specs.Test.{margin, admitted, firstFailing}
 
@@ -20,6 +21,9 @@ accepted t = eqb (refusal t .number) 0
 
 abbrev pub margins : Table → List ℤ
 margins t = tabulate mostTasks (λ k. cond (leb k (t .n)) (margin t k) (pos 0))
+
+abbrev pub judgement : Table → Judged
+judgement t = record { margins = margins t; first = firstFailing t }
 
 unfoldable pub fullAnswer : Table → FullAnswer
 fullAnswer t =

@@ -1,8 +1,9 @@
 -- The second test of the report (theorem 2, equation 9), multiplied by M × B so that no fraction is left.
 -- Tasks k and i are numbered from 1; the report's A, the partitions of the platform, is document 01's P.
 use Prim.Native.Nat.{ℕ, zero, suc, _+_, _-_, _*_, _/_, max}
-use mathlib.Core.Bool.{Bool, true, false, not}
-use lib.IntN.{ℤ, pos, negsuc, _-ℤ_}
+use mathlib.Core.Bool.{Bool, not}
+use lib.IntN.{ℤ, pos, _-ℤ_}
+use lib.Signed.{ltZ}
 use Rattle.maths.specs.Sums.{Σ}
 use Rattle.maths.specs.Tasks.{every, lowest}
 use Rattle.table.specs.declared.Task.{Task}
@@ -46,9 +47,7 @@ abbrev pub margin : Table → ℕ → ℤ
 margin t k = less (limit t k) (load t k)
 
 abbrev pub above0 : ℤ → Bool
-above0 (pos zero) = false
-above0 (pos (suc n)) = true
-above0 (negsuc n) = false
+above0 z = ltZ (pos 0) z
 
 -- equation 9 for task k
 abbrev pub passes : Table → ℕ → Bool

@@ -6,16 +6,22 @@ use mathlib.Core.List.{List, [], _∷_, _++_, append-assoc}
 use native.Mathlib.Nat.{not-suc-le-zero}
 use native.Mathlib.Numerals.{add-one}
 use native.Mathlib.Omega.{arith}
-use native.Mathlib.Decide.{decLt, decLe}
+use native.Mathlib.Decide.{decLt, decLe, ℕ-discrete}
+use mathlib.Core.Logic.{_≢_}
 use borrow.Author.Tests.{eq-eqb, ne-eqb, eqb-true, eqb-false}
 use lib.Dec.{eqb, eqb·suc-zero}
-use lib.ListN.{length, getD, set, replicate, length-append, List·getD-append}
-use lib.Seq.{set-at, getD-at}
+use lib.ListN.{length, getD, set, length-append, length-set, List·getD-append}
+use lib.Seq.{getD-at, getD-set-same, getD-set-other, ext-getD}
 use Rattle.maths.specs.Tasks.{every, orElse, lowest, tabulate}
 
 pub lowest-zero : (f : ℕ → Bool) → lowest 0 f ≡ 0
 unfolding lowest
 lowest-zero f = refl
+
+-- as a loop's `i + 1` has it
+pub lowest-more : (f : ℕ → Bool) (n : ℕ) → lowest (n + 1) f ≡ orElse (lowest n f) (cond (f (suc n)) (suc n) 0)
+unfolding lowest
+lowest-more f n = rw (add-one n)
 
 module _ (f : ℕ → Bool) where
   -- none of the first n, and not the next
@@ -113,3 +119,25 @@ module _ {X : Type 0} (f : ℕ → X) where
         | yes h ↦ List·getD-append (tabulate n f) (f (suc n) ∷ []) d i (omega (arith, length-tabulate n)) ∙ getD-tabulate n i d h
         | no h ↦ let z : i ≡ n = omega arith in rw z (getD-at (tabulate n f) (f (suc n)) [] d n (length-tabulate n))
       ]
+
+-- a store of an array that is tabulated: the same but at one place
+pub set-tabulate : {X : Type 0} (f g : ℕ → X) (n i : ℕ) → i < n → ((j : ℕ) → j < n → j ≢ i → g (suc j) ≡ f (suc j))
+    → set (tabulate n f) i (g (suc i)) ≡ tabulate n g
+set-tabulate f g n i l same =
+    let long : length (set (tabulate n f) i (g (suc i))) ≡ n = length-set (tabulate n f) i (g (suc i)) ∙ length-tabulate f n in
+    ext-getD (g 0) _ _ (long ∙ sym (length-tabulate g n)) (λ j m. at j (omega (arith, long)))
+  where
+    at : (j : ℕ) → j < n → getD (set (tabulate n f) i (g (suc i))) j (g 0) ≡ getD (tabulate n g) j (g 0)
+    at j m =
+        elim (ℕ-discrete j i) [
+          | yes e ↦ rw (e, getD-tabulate g n i (g 0) l) (getD-set-same (tabulate n f) i (g (suc i)) (g 0) (omega (arith, length-tabulate f n)))
+          | no h ↦ getD-set-other (tabulate n f) i j (g (suc i)) (g 0) h ∙ (getD-tabulate f n j (g 0) m ∙ (sym (same j m h) ∙ sym (getD-tabulate g n j (g 0) m)))
+        ]
+
+pub orElse-some : (x y : ℕ) → 0 < x → orElse x y ≡ x
+orElse-some zero y h = absurd (not-suc-le-zero h)
+orElse-some (suc x) y h = refl
+
+pub orElse-none : (x y : ℕ) → x ≤ 0 → orElse x y ≡ y
+orElse-none zero y h = refl
+orElse-none (suc x) y h = absurd (not-suc-le-zero h)

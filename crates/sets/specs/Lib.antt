@@ -1,0 +1,4 @@
+pub mod Sets
+pub mod TaskSets
+pub mod Families
+pub mod Choice

@@ -1,0 +1,5 @@
+pub mod Bits
+pub mod Sizes
+pub mod Wheres
+pub mod Unions
+pub mod Choices

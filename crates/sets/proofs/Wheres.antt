@@ -1,0 +1,99 @@
+-- Laws of the sets that are built place by place, and of the sets of tasks among them.
+use Prim.Native.Nat.{ℕ, zero, suc, _+_, _-_, _*_, _^_, _<_, _≤_}
+use mathlib.Core.Path.{_≡_, refl, sym, _∙_, ap}
+use mathlib.Core.Bool.{Bool, true, false, cond}
+use mathlib.Core.Logic.{_⊎_, inl, inr}
+use native.Mathlib.Nat.{not-suc-le-zero, le-of-suc-le-suc, eq-or-lt-of-le, pow-suc, one-mul}
+use native.Mathlib.Omega.{arith}
+use native.Mathlib.Numerals.{add-one}
+use native.Mathlib.Decide.{decLt}
+use borrow.Author.Tests.{lt-ltb, le-ltb}
+use lib.Bits.{bitAnd, bitOr, and-shifted, and-comm, or-disjoint, or-shifted-r}
+use lib.Dec.{lit<}
+use Rattle.sets.specs.Sets.{bit, has, setWhere}
+use Rattle.sets.specs.TaskSets.{hasTask, taskBit, tasksWhere}
+use Rattle.sets.proofs.Bits.{bit-lt, bit-cases, bit-one, bit-none, bit-above, bit-zero, bit-or, bit-pow-same, bit-pow-other, ext}
+
+-- a member from w on is put to a set below w: by `+` or by `|`
+pub or-add : (w x : ℕ) → x < 2 ^ w → bitOr x (2 ^ w) ≡ x + 2 ^ w
+or-add w x h =
+    let e : bitOr x (1 * 2 ^ w) ≡ 1 * 2 ^ w + x = or-shifted-r 1 w x h in
+    rw (one-mul (2 ^ w)) at e ∙ omega arith
+
+module _ (f : ℕ → Bool) where
+  pub where-none : setWhere f 0 ≡ 0
+  unfolding setWhere
+  where-none = refl
+
+  pub where-more : (n : ℕ) → setWhere f (suc n) ≡ setWhere f n + cond (f n) (2 ^ n) 0
+  unfolding setWhere
+  where-more n = refl
+
+  pub where-lt : (n : ℕ) → setWhere f n < 2 ^ n
+  where-lt zero = rw where-none (lit< tt)
+  where-lt (suc n) = by (f n) refl (where-lt n)
+    where
+      by : (b : Bool) → f n ≡ b → setWhere f n < 2 ^ n → setWhere f (suc n) < 2 ^ suc n
+      by true e h = rw (where-more n, e) (omega (arith, pow-suc 2 n))
+      by false e h = rw (where-more n, e) (omega (arith, pow-suc 2 n))
+
+  -- a turn of a loop that builds the set: by `+`, by `|`, or not at all
+  pub where-add : (n : ℕ) → f n ≡ true → setWhere f (n + 1) ≡ setWhere f n + 2 ^ n
+  where-add n e = rw (add-one, where-more n, e)
+
+  pub where-or : (n : ℕ) → f n ≡ true → setWhere f (n + 1) ≡ bitOr (setWhere f n) (2 ^ n)
+  where-or n e = where-add n e ∙ sym (or-add n (setWhere f n) (where-lt n))
+
+  pub where-out : (n : ℕ) → f n ≡ false → setWhere f (n + 1) ≡ setWhere f n
+  where-out n e = rw (add-one, where-more n, e) (omega arith)
+
+  -- the members are those of which f is true
+  pub where-above : (n p : ℕ) → n ≤ p → bit (setWhere f n) p ≡ 0
+  where-above n p h = bit-above n (setWhere f n) p (where-lt n) h
+
+  pub where-bit : (n p : ℕ) → p < n → bit (setWhere f n) p ≡ cond (f p) 1 0
+  where-bit zero p l = absurd (not-suc-le-zero l)
+  where-bit (suc n) p l = by (f n) refl (eq-or-lt-of-le (le-of-suc-le-suc l)) (λ m. where-bit n p m)
+    where
+      by : (b : Bool) → f n ≡ b → (p ≡ n) ⊎ (p < n) → (p < n → bit (setWhere f n) p ≡ cond (f p) 1 0) → bit (setWhere f (suc n)) p ≡ cond (f p) 1 0
+      by true e (inl w) r = rw (w, ← add-one, where-or n e, e) (omega (arith, bit-or (setWhere f n) (2 ^ n) n, bit-pow-same n, bit-lt (setWhere f n) n))
+      by true e (inr w) r = rw (← add-one, where-or n e, bit-or, bit-pow-other n p (omega arith)) (omega (arith, r w))
+      by false e (inl w) r = rw (w, ← add-one, where-out n e, e) (where-above n n (omega arith))
+      by false e (inr w) r = rw (← add-one, where-out n e) (r w)
+
+  pub where-has : (n p : ℕ) → p < n → has (setWhere f n) p ≡ f p
+  where-has n p l = by (f p) refl
+    where
+      by : (b : Bool) → f p ≡ b → has (setWhere f n) p ≡ b
+      by true e = bit-one (setWhere f n) p (rw e at (where-bit n p l))
+      by false e = bit-none (setWhere f n) p (rw e at (where-bit n p l))
+
+pub where-same : (f g : ℕ → Bool) (n : ℕ) → ((i : ℕ) → i < n → f i ≡ g i) → setWhere f n ≡ setWhere g n
+where-same f g zero h = where-none f ∙ sym (where-none g)
+where-same f g (suc n) h = rw (where-more f n, where-more g n, where-same f g n (λ i l. h i (omega arith)), h n (omega arith))
+
+-- a set is the set of its members
+pub where-members : (w x : ℕ) → x < 2 ^ w → setWhere (has x) w ≡ x
+where-members w x h = ext w (setWhere (has x) w) x (where-lt (has x) w) h (λ p l. where-bit (has x) w p l ∙ by p (bit-cases x p))
+  where
+    by : (p : ℕ) → (bit x p ≡ 0) ⊎ (bit x p ≡ 1) → cond (has x p) 1 0 ≡ bit x p
+    by p (inl e) = rw (bit-none x p e, e)
+    by p (inr e) = rw (bit-one x p e, e)
+
+-- tasks
+pub task-is : (i : ℕ) → i < 32 → taskBit (i + 1) ≡ 2 ^ i
+task-is i h =
+    let e : i + 1 - 1 ≡ i = omega arith in
+    rw (le-ltb (i + 1) 1 (omega arith), le-ltb 32 (i + 1) (omega arith), e)
+
+module _ (f : ℕ → Bool) (i : ℕ) where
+  pub tasks-or : i < 32 → f (i + 1) ≡ true → bitOr (tasksWhere f i) (taskBit (i + 1)) ≡ tasksWhere f (i + 1)
+  tasks-or h e = rw (task-is i h) (sym (where-or (λ j. f (suc j)) i (rw add-one at e)))
+
+  pub tasks-out : f (i + 1) ≡ false → tasksWhere f i ≡ tasksWhere f (i + 1)
+  tasks-out e = sym (where-out (λ j. f (suc j)) i (rw add-one at e))
+
+pub tasks-has : (f : ℕ → Bool) (n k : ℕ) → 0 < k → k ≤ n → hasTask (tasksWhere f n) k ≡ f k
+tasks-has f n k h l =
+    let e : suc (k - 1) ≡ k = omega arith in
+    rw (lt-ltb 0 k h) (where-has (λ j. f (suc j)) n (k - 1) (omega arith) ∙ ap f e)

@@ -1,7 +1,7 @@
 -- Laws of single places: the bits of every set that the definitions make, and when two sets are one.
 use Prim.Native.Nat.{ℕ, zero, suc, _+_, _-_, _*_, _/_, _%_, _^_, _<_, _≤_, max, min}
 use mathlib.Core.Path.{_≡_, refl, sym, _∙_, ap}
-use mathlib.Core.Bool.{Bool, true, false}
+use mathlib.Core.Bool.{Bool, true, false, cond}
 use mathlib.Core.Logic.{_⊎_, inl, inr}
 use native.Mathlib.Nat.{not-suc-le-zero, le-of-suc-le-suc, lt-of-lt-of-le, le-of-lt, eq-or-lt-of-le, pow-suc, one-mul, mod-lt, div-one, div-self, zero-div, div-eq-of-lt, mod-eq-of-lt, mod-le}
 use native.Mathlib.Omega.{arith}
@@ -36,6 +36,13 @@ bit-cases x p = by (ℕ-discrete (bit x p) 0)
     by : Dec (bit x p ≡ 0) → (bit x p ≡ 0) ⊎ (bit x p ≡ 1)
     by (yes e) = inl e
     by (no e) = inr (omega (arith, bit-lt x p))
+
+pub has-bit : (x p : ℕ) → cond (has x p) 1 0 ≡ bit x p
+has-bit x p = by (bit-cases x p)
+  where
+    by : (bit x p ≡ 0) ⊎ (bit x p ≡ 1) → cond (has x p) 1 0 ≡ bit x p
+    by (inl e) = rw (bit-none x p e, e)
+    by (inr e) = rw (bit-one x p e, e)
 
 -- a number of w places has no member from w on
 pub bit-above : (w x p : ℕ) → x < 2 ^ w → w ≤ p → bit x p ≡ 0
@@ -159,6 +166,14 @@ within-lt w x y h l =
     by : (p : ℕ) → Dec (p < w) → bit x p ≡ bit (x % 2 ^ w) p
     by p (yes q) = sym (bit-mod w x p q)
     by p (no q) = omega (arith, h p, bit-above w y p l (omega arith), bit-above w (x % 2 ^ w) p (mod-lt x (pow-pos w)) (omega arith))
+
+-- what is within y is shared with y, and what y has besides is disjoint from it
+pub and-within : (x y : ℕ) → Within x y → bitAnd y x ≡ x
+and-within x y h = same (bitAnd y x) x (λ p. omega (arith, bit-and y x p, h p))
+
+pub without-or : (x y : ℕ) → bitAnd x y ≡ 0 → without (bitOr x y) y ≡ x
+without-or x y e =
+    same (without (bitOr x y) y) x (λ p. omega (arith, bit-without (bitOr x y) y p, bit-or x y p, disjoint-bit x y p e))
 
 -- p is the lowest member of x
 pub record Lowest (x p : ℕ) : Type 0 where

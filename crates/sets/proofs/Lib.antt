@@ -3,3 +3,4 @@ pub mod Sizes
 pub mod Wheres
 pub mod Unions
 pub mod Choices
+pub mod Lowest

@@ -1,5 +1,5 @@
 -- Laws of the sets that are built place by place, and of the sets of tasks among them.
-use Prim.Native.Nat.{ℕ, zero, suc, _+_, _-_, _*_, _^_, _<_, _≤_}
+use Prim.Native.Nat.{ℕ, zero, suc, _+_, _-_, _*_, _%_, _^_, _<_, _≤_}
 use mathlib.Core.Path.{_≡_, refl, sym, _∙_, ap}
 use mathlib.Core.Bool.{Bool, true, false, cond}
 use mathlib.Core.Logic.{_⊎_, inl, inr}
@@ -10,9 +10,14 @@ use native.Mathlib.Decide.{decLt}
 use borrow.Author.Tests.{lt-ltb, le-ltb}
 use lib.Bits.{bitAnd, bitOr, and-shifted, and-comm, or-disjoint, or-shifted-r}
 use lib.Dec.{lit<}
+use lib.Pow.{shl-exact}
 use Rattle.sets.specs.Sets.{bit, has, setWhere}
 use Rattle.sets.specs.TaskSets.{hasTask, taskBit, tasksWhere}
-use Rattle.sets.proofs.Bits.{bit-lt, bit-cases, bit-one, bit-none, bit-above, bit-zero, bit-or, bit-pow-same, bit-pow-other, ext}
+use Rattle.sets.proofs.Bits.{bit-lt, bit-one, bit-none, has-bit, bit-above, bit-zero, bit-or, bit-pow-same, bit-pow-other, ext}
+
+-- `1 << p`
+pub shifted : (w p : ℕ) → p < w → 1 * 2 ^ p % 2 ^ w ≡ 2 ^ p
+shifted w p h = shl-exact 1 p w (lit< tt) (omega arith) ∙ one-mul (2 ^ p)
 
 -- a member from w on is put to a set below w: by `+` or by `|`
 pub or-add : (w x : ℕ) → x < 2 ^ w → bitOr x (2 ^ w) ≡ x + 2 ^ w
@@ -74,11 +79,7 @@ where-same f g (suc n) h = rw (where-more f n, where-more g n, where-same f g n 
 
 -- a set is the set of its members
 pub where-members : (w x : ℕ) → x < 2 ^ w → setWhere (has x) w ≡ x
-where-members w x h = ext w (setWhere (has x) w) x (where-lt (has x) w) h (λ p l. where-bit (has x) w p l ∙ by p (bit-cases x p))
-  where
-    by : (p : ℕ) → (bit x p ≡ 0) ⊎ (bit x p ≡ 1) → cond (has x p) 1 0 ≡ bit x p
-    by p (inl e) = rw (bit-none x p e, e)
-    by p (inr e) = rw (bit-one x p e, e)
+where-members w x h = ext w (setWhere (has x) w) x (where-lt (has x) w) h (λ p l. where-bit (has x) w p l ∙ has-bit x p)
 
 -- tasks
 pub task-is : (i : ℕ) → i < 32 → taskBit (i + 1) ≡ 2 ^ i

@@ -1,17 +1,16 @@
--- Laws of single places: the bits of every set that the definitions make, and when two sets are one.
+-- Laws of single places: the bits of every set that the definitions make.
 use Prim.Native.Nat.{ℕ, zero, suc, _+_, _-_, _*_, _/_, _%_, _^_, _<_, _≤_, max, min}
-use mathlib.Core.Path.{_≡_, refl, sym, _∙_, ap}
-use mathlib.Core.Bool.{Bool, true, false, cond}
+use mathlib.Core.Path.{_≡_, _∙_, ap}
+use mathlib.Core.Bool.{true, false, cond}
 use mathlib.Core.Logic.{_⊎_, inl, inr}
-use native.Mathlib.Nat.{not-suc-le-zero, le-of-suc-le-suc, lt-of-lt-of-le, le-of-lt, eq-or-lt-of-le, pow-suc, one-mul, mod-lt, div-one, div-self, zero-div, div-eq-of-lt, mod-eq-of-lt, mod-le}
+use native.Mathlib.Nat.{lt-of-lt-of-le, pow-suc, mod-lt, div-one, div-self, zero-div, div-eq-of-lt}
 use native.Mathlib.Omega.{arith}
-use native.Mathlib.Numerals.{add-one}
 use native.Mathlib.Decide.{ℕ-discrete, decLt}
 use borrow.Author.Tests.{eq-eqb, ne-eqb, eqb-true, eqb-false}
 use lib.Bits.{bitAnd, bitOr, and-step, or-step, and-shr, or-shr, and-le-l}
 use lib.Dec.{lit<}
 use lib.Pow.{pow-add, pow-pos, pow-mono, pow-lt, shl-shr, shr-shr, high, mod-pow-add, field, mod-mod-pow, ones-lt, ones-split}
-use Rattle.sets.specs.Sets.{bit, has, below, without, Within}
+use Rattle.sets.specs.Sets.{bit, has, below, without}
 
 pub bit-lt : (x p : ℕ) → bit x p < 2
 bit-lt x p = mod-lt (x / 2 ^ p) (lit< tt)
@@ -121,79 +120,3 @@ bit-below n p h =
 
 pub bit-below-above : (n p : ℕ) → n ≤ p → bit (below n) p ≡ 0
 bit-below-above n p h = bit-above n (below n) p (ones-lt n) h
-
--- two sets with the same members below w are the same below w
-same-mod : (w x y : ℕ) → ((p : ℕ) → p < w → bit x p ≡ bit y p) → x % 2 ^ w ≡ y % 2 ^ w
-same-mod zero x y h = omega arith
-same-mod (suc w) x y h =
-    rw (mod-more x w, mod-more y w, h w (omega arith), same-mod w x y (λ p l. h p (omega arith)))
-
-pub ext : (w x y : ℕ) → x < 2 ^ w → y < 2 ^ w → ((p : ℕ) → p < w → bit x p ≡ bit y p) → x ≡ y
-ext w x y a b h = sym (mod-eq-of-lt a) ∙ same-mod w x y h ∙ mod-eq-of-lt b
-
--- every number has its places
-lt-pow : (x : ℕ) → x < 2 ^ x
-lt-pow zero = lit< tt
-lt-pow (suc x) = omega (arith, lt-pow x, pow-suc 2 x)
-
--- the same over all places
-pub same : (x y : ℕ) → ((p : ℕ) → bit x p ≡ bit y p) → x ≡ y
-same x y h =
-    ext (x + y) x y
-    (lt-of-lt-of-le (lt-pow x) (pow-mono (omega arith)))
-    (lt-of-lt-of-le (lt-pow y) (pow-mono (omega arith)))
-    (λ p l. h p)
-
--- a set without a member is 0
-pub none : (x : ℕ) → ((p : ℕ) → bit x p ≡ 0) → x ≡ 0
-none x h = same x 0 (λ p. h p ∙ sym (bit-zero p))
-
--- two sets that share no member
-pub disjoint-of : (x y : ℕ) → ((p : ℕ) → bit x p + bit y p < 2) → bitAnd x y ≡ 0
-disjoint-of x y h = none (bitAnd x y) (λ p. omega (arith, bit-and x y p, h p))
-
-pub disjoint-bit : (x y p : ℕ) → bitAnd x y ≡ 0 → bit x p + bit y p < 2
-disjoint-bit x y p e =
-    let z : bit (bitAnd x y) p ≡ 0 = rw e (bit-zero p) in
-    omega (arith, bit-and x y p, bit-lt x p, bit-lt y p)
-
--- a set that is within w places in each of its members is below 2 ^ w
-pub within-lt : (w x y : ℕ) → Within x y → y < 2 ^ w → x < 2 ^ w
-within-lt w x y h l =
-    let e : x ≡ x % 2 ^ w = same x (x % 2 ^ w) (λ p. by p (decLt p w)) in
-    rw e (mod-lt x (pow-pos w))
-  where
-    by : (p : ℕ) → Dec (p < w) → bit x p ≡ bit (x % 2 ^ w) p
-    by p (yes q) = sym (bit-mod w x p q)
-    by p (no q) = omega (arith, h p, bit-above w y p l (omega arith), bit-above w (x % 2 ^ w) p (mod-lt x (pow-pos w)) (omega arith))
-
--- what is within y is shared with y, and what y has besides is disjoint from it
-pub and-within : (x y : ℕ) → Within x y → bitAnd y x ≡ x
-and-within x y h = same (bitAnd y x) x (λ p. omega (arith, bit-and y x p, h p))
-
-pub without-or : (x y : ℕ) → bitAnd x y ≡ 0 → without (bitOr x y) y ≡ x
-without-or x y e =
-    same (without (bitOr x y) y) x (λ p. omega (arith, bit-without (bitOr x y) y p, bit-or x y p, disjoint-bit x y p e))
-
--- p is the lowest member of x
-pub record Lowest (x p : ℕ) : Type 0 where
-  pub there : bit x p ≡ 1
-  pub first : x % 2 ^ p ≡ 0
-
-lowest-below : (w x : ℕ) → (x % 2 ^ w ≡ 0) ⊎ ((p : ℕ) × (p < w) × Lowest x p)
-lowest-below zero x = inl (omega arith)
-lowest-below (suc w) x = by (lowest-below w x) (bit-cases x w)
-  where
-    by : (x % 2 ^ w ≡ 0) ⊎ ((p : ℕ) × (p < w) × Lowest x p) → (bit x w ≡ 0) ⊎ (bit x w ≡ 1)
-        → (x % 2 ^ suc w ≡ 0) ⊎ ((p : ℕ) × (p < suc w) × Lowest x p)
-    by (inl z) (inl b) = inl (rw (mod-more x w, b, z) (omega arith))
-    by (inl z) (inr b) = inr (w, omega arith, record { there = b; first = z })
-    by (inr l) b = inr (l .0, omega (arith, l .1), l .2)
-
--- a set that is not 0 has a lowest member
-pub lowest : (w x : ℕ) → x < 2 ^ w → 0 < x → (p : ℕ) × (p < w) × Lowest x p
-lowest w x h pos = by (lowest-below w x)
-  where
-    by : (x % 2 ^ w ≡ 0) ⊎ ((p : ℕ) × (p < w) × Lowest x p) → (p : ℕ) × (p < w) × Lowest x p
-    by (inl z) = absurd (omega (arith, mod-eq-of-lt h))
-    by (inr l) = l

@@ -1,7 +1,7 @@
 -- Laws of the choice of partitions for a starting job. The first section looks into the definition; what is above knows
 -- `choice` by the laws of the second, of which only `choice-lowest` says which of the idle ones are taken.
 use Prim.Native.Nat.{ℕ, zero, suc, _+_, _-_, _^_, _<_, _≤_, min, zero-le}
-use mathlib.Core.Path.{_≡_, refl, sym, _∙_, ap}
+use mathlib.Core.Path.{_≡_, refl, sym, _∙_}
 use mathlib.Core.Bool.{Bool, true, false, _&&_, and-true, and-false}
 use mathlib.Core.List.{List, [], _∷_, _++_, append-nil}
 use mathlib.Core.Logic.{_⊎_, inl, inr}
@@ -9,14 +9,15 @@ use native.Mathlib.Omega.{arith}
 use native.Mathlib.Numerals.{add-one}
 use native.Mathlib.Decide.{decLt}
 use borrow.Author.Tests.{lt-ltb, le-ltb}
-use lib.Bits.{bitAnd, bitOr, or-zero-l, or-zero-r, and-zero-r}
+use lib.Bits.{bitAnd, bitOr, or-zero-l, or-zero-r}
 use lib.Dec.{ltb}
 use lib.ListN.{length, take, length-append}
 use lib.Seq.{take-all, take-append-le, take-nil}
-use Rattle.sets.specs.Sets.{bit, has, size, members, setOf, setWhere, below, without, Within}
+use Rattle.sets.specs.Sets.{bit, has, size, members, setOf, setWhere, without, Within}
 use Rattle.sets.specs.Choice.{choice}
-use Rattle.sets.proofs.Bits.{bit-lt, bit-cases, bit-one, bit-none, has-bit, bit-zero, bit-or, bit-and, bit-without, same, none, disjoint-of, within-lt}
-use Rattle.sets.proofs.Sizes.{size-none, size-more, size-grows, size-zero, size-empty}
+use Rattle.sets.proofs.Bits.{bit-lt, bit-cases, bit-one, bit-none, has-bit, bit-or, bit-without}
+use Rattle.sets.proofs.Same.{same, none, disjoint-of, within-lt}
+use Rattle.sets.proofs.Sizes.{size-none, size-more, size-grows}
 use Rattle.sets.proofs.Wheres.{where-none, where-or, where-out, where-bit, where-above}
 
 -- ---- the definition, place by place

@@ -1,9 +1,9 @@
 -- Taking the lowest members one by one: `x & (x - 1)` lacks the lowest member of x, and what the choice leaves of x is
 -- what a choice of one less leaves of that.
 use Prim.Native.Nat.{ℕ, zero, suc, _+_, _-_, _*_, _/_, _%_, _^_, _<_, _≤_}
-use mathlib.Core.Path.{_≡_, refl, sym, _∙_, ap, ap₂}
+use mathlib.Core.Path.{_≡_, sym, _∙_, ap₂}
 use mathlib.Core.Logic.{_⊎_, inl, inr}
-use native.Mathlib.Nat.{lt-of-le-of-lt, one-mul, sub-le}
+use native.Mathlib.Nat.{lt-of-le-of-lt, one-mul, sub-le, mod-eq-of-lt}
 use native.Mathlib.Omega.{arith}
 use native.Mathlib.Decide.{ℕ-discrete, decLt}
 use lib.Arith.{sub-sub-self}
@@ -11,9 +11,33 @@ use lib.Bits.{bitAnd, and-block, and-self, and-shifted, and-le-l, and-zero-r}
 use lib.Pow.{pow-pos, pow-lt, split, ones-lt}
 use Rattle.sets.specs.Sets.{bit, size, without, Within}
 use Rattle.sets.specs.Choice.{choice}
-use Rattle.sets.proofs.Bits.{bit-lt, bit-zero, bit-without, bit-pow-same, bit-pow-other, bit-mod, mod-more, ext, and-within, Lowest, lowest}
-use Rattle.sets.proofs.Sizes.{size-none, size-zero, size-same, size-pow, size-without}
+use Rattle.sets.proofs.Bits.{bit-cases, bit-lt, bit-zero, bit-without, bit-pow-same, bit-pow-other, bit-mod, mod-more}
+use Rattle.sets.proofs.Same.{ext, and-within}
+use Rattle.sets.proofs.Sizes.{size-zero, size-same, size-pow, size-without}
 use Rattle.sets.proofs.Choices.{choice-in, choice-out, choice-within, choice-none}
+
+-- p is the lowest member of x
+pub record Lowest (x p : ℕ) : Type 0 where
+  pub there : bit x p ≡ 1
+  pub first : x % 2 ^ p ≡ 0
+
+lowest-below : (w x : ℕ) → (x % 2 ^ w ≡ 0) ⊎ ((p : ℕ) × (p < w) × Lowest x p)
+lowest-below zero x = inl (omega arith)
+lowest-below (suc w) x = by (lowest-below w x) (bit-cases x w)
+  where
+    by : (x % 2 ^ w ≡ 0) ⊎ ((p : ℕ) × (p < w) × Lowest x p) → (bit x w ≡ 0) ⊎ (bit x w ≡ 1)
+        → (x % 2 ^ suc w ≡ 0) ⊎ ((p : ℕ) × (p < suc w) × Lowest x p)
+    by (inl z) (inl b) = inl (rw (mod-more x w, b, z) (omega arith))
+    by (inl z) (inr b) = inr (w, omega arith, record { there = b; first = z })
+    by (inr l) b = inr (l .0, omega (arith, l .1), l .2)
+
+-- a set that is not 0 has a lowest member
+pub lowest : (w x : ℕ) → x < 2 ^ w → 0 < x → (p : ℕ) × (p < w) × Lowest x p
+lowest w x h pos = by (lowest-below w x)
+  where
+    by : (x % 2 ^ w ≡ 0) ⊎ ((p : ℕ) × (p < w) × Lowest x p) → (p : ℕ) × (p < w) × Lowest x p
+    by (inl z) = absurd (omega (arith, mod-eq-of-lt h))
+    by (inr l) = l
 
 module _ (x p : ℕ) (low : Lowest x p) where
   -- nothing is below the lowest

@@ -1,16 +1,17 @@
 -- Laws of how many members a set has, each from what holds at every place.
-use Prim.Native.Nat.{ℕ, zero, suc, _+_, _-_, _*_, _/_, _%_, _^_, _<_, _≤_, max, min, zero-le}
-use mathlib.Core.Path.{_≡_, refl, sym, _∙_, ap}
+use Prim.Native.Nat.{ℕ, zero, suc, _+_, _-_, _/_, _^_, _<_, _≤_, zero-le}
+use mathlib.Core.Path.{_≡_, refl, sym, _∙_}
 use mathlib.Core.Logic.{_⊎_, inl, inr}
-use native.Mathlib.Nat.{not-suc-le-zero, le-of-suc-le-suc, eq-or-lt-of-le, le-refl, lt-of-lt-of-le, div-one, div-eq-of-lt}
+use native.Mathlib.Nat.{not-suc-le-zero, le-of-suc-le-suc, eq-or-lt-of-le, le-refl, div-one, div-eq-of-lt}
 use native.Mathlib.Omega.{arith}
 use native.Mathlib.Numerals.{add-one}
-use native.Mathlib.Decide.{decLt, le-ind}
+use native.Mathlib.Decide.{le-ind}
 use lib.Bits.{bitAnd, bitOr}
 use lib.Count.{ones, onesIn, ones-step}
-use lib.Pow.{pow-mono, shr-shr, ones-lt}
+use lib.Pow.{shr-shr, ones-lt}
 use Rattle.sets.specs.Sets.{bit, size, below, without, Within}
-use Rattle.sets.proofs.Bits.{bit-lt, bit-cases, bit-above, bit-zero, bit-or, bit-and, bit-without, bit-pow-same, bit-pow-other, bit-below, bit-below-above, disjoint-bit, ext}
+use Rattle.sets.proofs.Bits.{bit-lt, bit-cases, bit-above, bit-zero, bit-or, bit-and, bit-without, bit-pow-same, bit-pow-other, bit-below}
+use Rattle.sets.proofs.Same.{ext, within-below}
 
 pub size-none : (x : ℕ) → size 0 x ≡ 0
 unfolding size
@@ -114,13 +115,6 @@ size-empty w x h e = ext w x 0 h (omega arith) (λ p l. by p l (bit-cases x p) �
     by p l (inr b) = omega (arith, size-pos w x p l b)
 
 -- the idle ones: those below p that x lacks
-pub within-below : (p x : ℕ) → x < 2 ^ p → Within x (below p)
-within-below p x h q = by (decLt q p)
-  where
-    by : Dec (q < p) → bit x q ≤ bit (below p) q
-    by (yes l) = omega (arith, bit-below p q l, bit-lt x q)
-    by (no l) = omega (arith, bit-above p x q h (omega arith))
-
 pub size-idle : (w p x : ℕ) → p ≤ w → x < 2 ^ p → size w (without (below p) x) ≡ p - size w x
 size-idle w p x l h = omega (arith, size-without w (below p) x (within-below p x h), size-below w p l)
 

@@ -1,18 +1,19 @@
--- Laws of sets that several hold: their union, that no number has two holders, and how both move when one holder changes.
-use Prim.Native.Nat.{ℕ, zero, suc, _+_, _-_, _^_, _<_, _≤_, max, min}
-use mathlib.Core.Path.{_≡_, refl, sym, _∙_, ap}
+-- Laws of sets that several hold: their union, its size, and that no number has two holders.
+use Prim.Native.Nat.{ℕ, zero, suc, _+_, _-_, _^_, _<_, _≤_}
+use mathlib.Core.Path.{_≡_, refl, sym, _∙_}
 use mathlib.Core.Logic.{_⊎_, inl, inr}
 use native.Mathlib.Nat.{not-suc-le-zero, le-of-suc-le-suc, eq-or-lt-of-le, le-refl}
 use native.Mathlib.Omega.{arith}
-use native.Mathlib.Numerals.{add-one}
-use native.Mathlib.Decide.{ℕ-discrete, le-ind}
-use lib.Bits.{bitAnd, bitOr, and-comm, or-lt}
-use lib.Dec.{lit<}
+use native.Mathlib.Decide.{le-ind}
+use borrow.Author.Tests.{eq-eqb, eqb-true}
+use mathlib.Core.Bool.{Bool, true, false, _&&_, true≢false}
+use lib.Bits.{bitAnd, bitOr, or-lt}
 use lib.Pow.{pow-pos}
 use Rattle.maths.specs.Sums.{sum}
-use Rattle.sets.specs.Sets.{bit, size, without, Within}
-use Rattle.sets.specs.Families.{unionOf, Apart}
-use Rattle.sets.proofs.Bits.{bit-lt, bit-cases, bit-zero, bit-or, bit-and, bit-without, same, disjoint-of, disjoint-bit}
+use Rattle.sets.specs.Sets.{bit, size, disjoint, Within}
+use Rattle.sets.specs.Families.{unionOf, Apart, allApart}
+use Rattle.sets.proofs.Bits.{bit-lt, bit-cases, bit-zero, bit-or}
+use Rattle.sets.proofs.Same.{disjoint-of, disjoint-bit}
 use Rattle.sets.proofs.Sizes.{size-zero, size-union, size-or-le}
 
 module _ (held : ℕ → ℕ) where
@@ -79,6 +80,28 @@ module _ (held : ℕ → ℕ) where
       by (inl w) = rw w (disjoint-union n (held n) i e (omega arith))
       by (inr w) = a i j l w
 
+  -- the test
+  pub all-apart-none : allApart 0 held ≡ true
+  unfolding allApart
+  all-apart-none = refl
+
+  pub all-apart-more : (n : ℕ) → allApart (suc n) held ≡ (allApart n held && disjoint (unionOf n held) (held n))
+  unfolding allApart
+  all-apart-more n = refl
+
+  pub all-apart : (n : ℕ) → allApart n held ≡ true → Apart n held
+  all-apart zero e = apart-none
+  all-apart (suc n) e = by (allApart n held) refl (λ t. all-apart n t)
+    where
+      by : (b : Bool) → allApart n held ≡ b → (allApart n held ≡ true → Apart n held) → Apart (suc n) held
+      by true t r = apart-more n (r t) (eqb-true (bitAnd (unionOf n held) (held n)) 0 (rw (all-apart-more n, t) at e))
+      by false t r = absurd (true≢false (sym (rw (all-apart-more n, t) at e)))
+
+  pub apart-all : (n : ℕ) → Apart n held → allApart n held ≡ true
+  apart-all zero a = all-apart-none
+  apart-all (suc n) a =
+      rw (all-apart-more n, apart-all n (apart-less n (suc n) (omega arith) a)) (eq-eqb (bitAnd (unionOf n held) (held n)) 0 (apart-last n a))
+
   -- the count of the union is that of the holders
   pub union-size : (w n : ℕ) → Apart n held → size w (unionOf n held) ≡ sum (λ i. size w (held i)) n
   unfolding sum
@@ -94,43 +117,3 @@ module _ (held : ℕ → ℕ) where
 pub union-same : (f g : ℕ → ℕ) (n : ℕ) → ((i : ℕ) → i < n → f i ≡ g i) → unionOf n f ≡ unionOf n g
 union-same f g zero h = union-none f ∙ sym (union-none g)
 union-same f g (suc n) h = rw (union-more f n, union-more g n, union-same f g n (λ i l. h i (omega arith)), h n (omega arith))
-
--- holders that only give up keep apart
-pub apart-within : (f g : ℕ → ℕ) (n : ℕ) → ((i : ℕ) → i < n → Within (g i) (f i)) → Apart n f → Apart n g
-apart-within f g n h a i j l m =
-    disjoint-of (g i) (g j) (λ p. omega (arith, h i (omega arith) p, h j m p, disjoint-bit (f i) (f j) p (a i j l m)))
-
--- holder k, who had nothing, takes y
-module _ (f g : ℕ → ℕ) (n k : ℕ) (in-n : k < n) (others : (i : ℕ) → i < n → (i ≡ k → ⊥) → g i ≡ f i) where
-  pub union-take : f k ≡ 0 → unionOf n g ≡ bitOr (unionOf n f) (g k)
-  union-take e = same (unionOf n g) (bitOr (unionOf n f) (g k)) (λ p. by p (bit-cases (unionOf n g) p) (bit-cases (unionOf n f) p))
-    where
-      of-f : (p i : ℕ) → i < n → bit (f i) p ≡ 1 → Dec (i ≡ k) → 1 ≤ bit (unionOf n g) p
-      of-f p i l b (yes w) = absurd (omega (arith, rw (w, e) at b, bit-zero p))
-      of-f p i l b (no w) = omega (arith, rw (← others i l w) at b, union-within g n i l p)
-
-      of-g : (p i : ℕ) → i < n → bit (g i) p ≡ 1 → Dec (i ≡ k) → 1 ≤ max (bit (unionOf n f) p) (bit (g k) p)
-      of-g p i l b (yes w) = omega (arith, rw w at b)
-      of-g p i l b (no w) = omega (arith, rw (others i l w) at b, union-within f n i l p)
-
-      by : (p : ℕ) → (bit (unionOf n g) p ≡ 0) ⊎ (bit (unionOf n g) p ≡ 1) → (bit (unionOf n f) p ≡ 0) ⊎ (bit (unionOf n f) p ≡ 1)
-          → bit (unionOf n g) p ≡ bit (bitOr (unionOf n f) (g k)) p
-      by p (inl a) (inl b) = omega (arith, bit-or (unionOf n f) (g k) p, union-within g n k in-n p)
-      by p (inl a) (inr b) =
-          let m = union-some f n p b in
-          omega (arith, of-f p (m .0) (m .1) (m .2) (ℕ-discrete (m .0) k))
-      by p (inr a) b =
-          let m = union-some g n p a in
-          omega (arith, of-g p (m .0) (m .1) (m .2) (ℕ-discrete (m .0) k), bit-or (unionOf n f) (g k) p, bit-lt (unionOf n f) p, bit-lt (g k) p)
-
-  pub apart-take : Apart n f → bitAnd (unionOf n f) (g k) ≡ 0 → Apart n g
-  apart-take a e i j l m = by (ℕ-discrete i k) (ℕ-discrete j k)
-    where
-      free : (i : ℕ) → i < n → (i ≡ k → ⊥) → bitAnd (g i) (g k) ≡ 0
-      free i l w = rw (others i l w) (disjoint-union f n (g k) i e l)
-
-      by : Dec (i ≡ k) → Dec (j ≡ k) → bitAnd (g i) (g j) ≡ 0
-      by (yes u) (yes v) = absurd (omega arith)
-      by (yes u) (no v) = rw u (and-comm (g k) (g j) ∙ free j m v)
-      by (no u) (yes v) = rw v (free i (omega arith) u)
-      by (no u) (no v) = rw (others i (omega arith) u, others j m v) (a i j l m)

@@ -1,9 +1,8 @@
-use Prim.Native.Nat.{_≤_, _<_, _-_, _^_}
-use mathlib.Core.Path.{_≡_, sym, _∙_, refl, ap}
+use Prim.Native.Nat.{_≤_, _<_, _-_}
+use mathlib.Core.Path.{_≡_, _∙_, refl}
 use native.Mathlib.Nat.{le-refl, le-trans}
 use native.Mathlib.Omega.{arith}
 use lib.Bits.{and-le-l}
-use Rattle.sets.specs.Choice.{choice}
 use Rattle.sets.proofs.Lowest.{leaves, leaves-less, leaves-zero, taken, taken-all}
 use borrow.Author.Needs.{needs}
 use Rattle.sets.proofs.choose.Statement.{statement}

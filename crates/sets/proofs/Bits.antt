@@ -75,10 +75,10 @@ bit-and x y p = rw and-shr (low (x / 2 ^ p) (y / 2 ^ p))
     low x y = omega (arith, and-step x y)
 
 pub bit-without : (x y p : ℕ) → bit (without x y) p ≡ bit x p - bit y p
-bit-without x y zero = rw (bit-first, bit-first, bit-first) (omega (arith, and-step x y, and-le-l (x / 2) (y / 2)))
+bit-without x y zero = rw (bit-first (without x y), bit-first x, bit-first y) (omega (arith, and-step x y, and-le-l (x / 2) (y / 2)))
 bit-without x y (suc p) =
     let half : without x y / 2 ≡ without (x / 2) (y / 2) = omega (arith, and-step x y, and-le-l (x / 2) (y / 2)) in
-    rw (bit-next, bit-next, bit-next, half) (bit-without (x / 2) (y / 2) p)
+    rw (bit-next (without x y) p, bit-next x p, bit-next y p, half) (bit-without (x / 2) (y / 2) p)
 
 -- one member
 pub bit-pow-same : (p : ℕ) → bit (2 ^ p) p ≡ 1
@@ -115,7 +115,8 @@ pub bit-below : (n p : ℕ) → p < n → bit (below n) p ≡ 1
 bit-below n p h =
     let j = n - suc p in
     let e : n ≡ suc j + p = omega arith in
-    let d : below n / 2 ^ p ≡ 2 ^ suc j - 1 = ap (λ (z : ℕ). (2 ^ z - 1) / 2 ^ p) e ∙ ap (λ (z : ℕ). z / 2 ^ p) (ones-split (suc j) p) ∙ high (2 ^ suc j - 1) p (ones-lt p) in
+    let cut : below n ≡ (2 ^ suc j - 1) * 2 ^ p + (2 ^ p - 1) = ap (λ (z : ℕ). 2 ^ z - 1) e ∙ ones-split (suc j) p in
+    let d : below n / 2 ^ p ≡ 2 ^ suc j - 1 = ap (λ (z : ℕ). z / 2 ^ p) cut ∙ high (2 ^ suc j - 1) p (ones-lt p) in
     rw d (omega (arith, pow-suc 2 j, pow-pos j))
 
 pub bit-below-above : (n p : ℕ) → n ≤ p → bit (below n) p ≡ 0

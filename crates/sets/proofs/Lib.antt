@@ -4,5 +4,6 @@ pub mod Sizes
 pub mod Wheres
 pub mod Unions
 pub mod Holders
+pub mod Chosen
 pub mod Choices
 pub mod Lowest

@@ -14,7 +14,8 @@ use Rattle.sets.specs.Choice.{choice}
 use Rattle.sets.proofs.Bits.{bit-cases, bit-lt, bit-zero, bit-without, bit-pow-same, bit-pow-other, bit-mod, mod-more}
 use Rattle.sets.proofs.Same.{ext, and-within}
 use Rattle.sets.proofs.Sizes.{size-zero, size-same, size-pow, size-without}
-use Rattle.sets.proofs.Choices.{choice-in, choice-out, choice-within, choice-none}
+use Rattle.sets.proofs.Chosen.{choice-in, choice-out}
+use Rattle.sets.proofs.Choices.{choice-within, choice-none}
 
 -- p is the lowest member of x
 pub record Lowest (x p : ℕ) : Type 0 where
@@ -58,8 +59,8 @@ module _ (x p : ℕ) (low : Lowest x p) where
       let less : x - 1 ≡ h * 2 ^ suc p + (2 ^ p - 1) = omega (arith, pow-pos p) in
       let apart : bitAnd (2 ^ p) (2 ^ p - 1) ≡ 0 = rw (one-mul (2 ^ p)) at (and-shifted 1 p (2 ^ p - 1) (ones-lt p)) in
       let up : 2 ^ p < 2 ^ suc p = pow-lt (omega arith) in
-      let left : bitAnd x (x - 1) ≡ h * 2 ^ suc p =
-      ap₂ bitAnd is less ∙ and-block (suc p) h h (2 ^ p) (2 ^ p - 1) up (omega (arith, ones-lt p)) ∙ rw (and-self h, apart) (omega arith) in
+      let both = and-block (suc p) h h (2 ^ p) (2 ^ p - 1) up (omega (arith, ones-lt p)) in
+      let left : bitAnd x (x - 1) ≡ h * 2 ^ suc p = ap₂ bitAnd is less ∙ both ∙ rw (and-self h, apart) (omega arith) in
       rw (and-within (2 ^ p) x low-within) (left ∙ omega arith)
 
   -- the sizes of x and of x without its lowest
@@ -97,7 +98,9 @@ leaves-low x a p h low =
     by : (q : ℕ) → q < 64 → Dec (p < q) → Dec (p ≡ q) → Dec (size q y < a) → bit (leaves x (suc a)) q ≡ bit (leaves y a) q
     by q l (yes d) e (yes s) = leaves-none x (suc a) q l (omega (arith, low-size x p low q d)) ∙ sym (leaves-none y a q l s)
     by q l (yes d) e (no s) =
-        leaves-all x (suc a) q l (omega (arith, low-size x p low q d)) ∙ omega (arith, at q, bit-pow-other p q (omega arith)) ∙ sym (leaves-all y a q l (omega arith))
+        leaves-all x (suc a) q l (omega (arith, low-size x p low q d))
+        ∙ omega (arith, at q, bit-pow-other p q (omega arith))
+        ∙ sym (leaves-all y a q l (omega arith))
     by q l (no d) (yes e) s =
         let b : bit (2 ^ p) q ≡ 1 = rw e (bit-pow-same q) in
         leaves-none x (suc a) q l (rw (← e) (omega (arith, low-empty x p low)))

@@ -58,14 +58,16 @@ lt-of-bits w x h =
 pub within-lt : (w x y : ℕ) → Within x y → y < 2 ^ w → x < 2 ^ w
 within-lt w x y h l = lt-of-bits w x (λ p q. omega (arith, h p, bit-above w y p l q))
 
--- what is within y is shared with y, and what y has besides is disjoint from it
+-- what is within y is all that it shares with y
 pub and-within : (x y : ℕ) → Within x y → bitAnd y x ≡ x
 and-within x y h = same (bitAnd y x) x (λ p. omega (arith, bit-and y x p, h p))
 
+-- what was put to a set is taken away again
 pub without-or : (x y : ℕ) → bitAnd x y ≡ 0 → without (bitOr x y) y ≡ x
 without-or x y e =
     same (without (bitOr x y) y) x (λ p. omega (arith, bit-without (bitOr x y) y p, bit-or x y p, disjoint-bit x y p e))
 
+-- a number of p places is within the set of all below p
 pub within-below : (p x : ℕ) → x < 2 ^ p → Within x (below p)
 within-below p x h q = by (decLt q p)
   where

@@ -22,7 +22,8 @@ unfolding size
 size-more w x = refl
 
 -- what holds of the bits at each place holds of the sizes
-pub size-sums : (w x y u v : ℕ) → ((p : ℕ) → p < w → bit x p + bit y p ≡ bit u p + bit v p) → size w x + size w y ≡ size w u + size w v
+pub size-sums : (w x y u v : ℕ) → ((p : ℕ) → p < w → bit x p + bit y p ≡ bit u p + bit v p)
+    → size w x + size w y ≡ size w u + size w v
 unfolding size
 size-sums zero x y u v h = refl
 size-sums (suc w) x y u v h = omega (arith, size-sums w x y u v (λ p l. h p (omega arith)), h w (omega arith))
@@ -97,7 +98,8 @@ unfolding size
 size-some zero x h = absurd (not-suc-le-zero h)
 size-some (suc w) x h = by (λ l. size-some w x l) (bit-cases x w)
   where
-    by : (0 < size w x → (p : ℕ) × (p < w) × (bit x p ≡ 1)) → (bit x w ≡ 0) ⊎ (bit x w ≡ 1) → (p : ℕ) × (p < suc w) × (bit x p ≡ 1)
+    by : (0 < size w x → (p : ℕ) × (p < w) × (bit x p ≡ 1)) → (bit x w ≡ 0) ⊎ (bit x w ≡ 1)
+        → (p : ℕ) × (p < suc w) × (bit x p ≡ 1)
     by r (inl b) =
         let m = r (omega arith) in
         (m .0, omega (arith, m .1), m .2)

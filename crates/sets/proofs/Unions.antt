@@ -10,6 +10,7 @@ use mathlib.Core.Bool.{Bool, true, false, _&&_, true≢false}
 use lib.Bits.{bitAnd, bitOr, or-lt}
 use lib.Pow.{pow-pos}
 use Rattle.maths.specs.Sums.{sum}
+use Rattle.maths.proofs.Sums.{sum-zero, sum-suc}
 use Rattle.sets.specs.Sets.{bit, size, disjoint, Within}
 use Rattle.sets.specs.Families.{unionOf, Apart, allApart}
 use Rattle.sets.proofs.Bits.{bit-lt, bit-cases, bit-zero, bit-or}
@@ -28,7 +29,7 @@ module _ (held : ℕ → ℕ) where
   -- what a holder has is in the union
   pub union-within : (n i : ℕ) → i < n → Within (held i) (unionOf n held)
   union-within n i h p =
-      le-ind (λ (m : ℕ). bit (held i) p ≤ bit (unionOf m held) p)
+      le-ind {n = suc i} (λ (m : ℕ). bit (held i) p ≤ bit (unionOf m held) p)
       (rw union-more (omega (arith, bit-or (unionOf i held) (held i) p)))
       (λ m k l. rw union-more (omega (arith, bit-or (unionOf m held) (held m) p)))
       n
@@ -104,15 +105,13 @@ module _ (held : ℕ → ℕ) where
 
   -- the count of the union is that of the holders
   pub union-size : (w n : ℕ) → Apart n held → size w (unionOf n held) ≡ sum (λ i. size w (held i)) n
-  unfolding sum
-  union-size w zero a = rw union-none (size-zero w)
+  union-size w zero a = rw union-none (size-zero w ∙ sym (sum-zero (λ i. size w (held i))))
   union-size w (suc n) a =
-      rw union-more (omega (arith, size-union w (unionOf n held) (held n) (apart-last n a), union-size w n (apart-less n (suc n) (omega arith) a)))
+      rw (union-more, sum-suc) (omega (arith, size-union w (unionOf n held) (held n) (apart-last n a), union-size w n (apart-less n (suc n) (omega arith) a)))
 
   pub union-size-le : (w n : ℕ) → size w (unionOf n held) ≤ sum (λ i. size w (held i)) n
-  unfolding sum
   union-size-le w zero = rw union-none (omega (arith, size-zero w))
-  union-size-le w (suc n) = rw union-more (omega (arith, size-or-le w (unionOf n held) (held n), union-size-le w n))
+  union-size-le w (suc n) = rw (union-more, sum-suc) (omega (arith, size-or-le w (unionOf n held) (held n), union-size-le w n))
 
 pub union-same : (f g : ℕ → ℕ) (n : ℕ) → ((i : ℕ) → i < n → f i ≡ g i) → unionOf n f ≡ unionOf n g
 union-same f g zero h = union-none f ∙ sym (union-none g)

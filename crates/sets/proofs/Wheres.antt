@@ -10,8 +10,9 @@ use borrow.Author.Tests.{lt-ltb, le-ltb}
 use lib.Bits.{bitOr, or-shifted-r}
 use lib.Dec.{lit<}
 use lib.Pow.{shl-exact}
-use Rattle.sets.specs.Sets.{bit, has, size, setWhere}
 use Rattle.maths.specs.Sums.{sum}
+use Rattle.maths.proofs.Sums.{sum-zero, sum-suc}
+use Rattle.sets.specs.Sets.{bit, has, size, setWhere}
 use Rattle.sets.specs.TaskSets.{hasTask, taskBit, tasksWhere}
 use Rattle.sets.proofs.Bits.{bit-lt, bit-one, bit-none, has-bit, bit-above, bit-or, bit-pow-same, bit-pow-other}
 use Rattle.sets.proofs.Same.{ext}
@@ -62,11 +63,14 @@ module _ (f : ℕ → Bool) where
   where-bit zero p l = absurd (not-suc-le-zero l)
   where-bit (suc n) p l = by (f n) refl (eq-or-lt-of-le (le-of-suc-le-suc l)) (λ m. where-bit n p m)
     where
-      by : (b : Bool) → f n ≡ b → (p ≡ n) ⊎ (p < n) → (p < n → bit (setWhere f n) p ≡ cond (f p) 1 0) → bit (setWhere f (suc n)) p ≡ cond (f p) 1 0
-      by true e (inl w) r = rw (w, ← add-one, where-or n e, e) (omega (arith, bit-or (setWhere f n) (2 ^ n) n, bit-pow-same n, bit-lt (setWhere f n) n))
-      by true e (inr w) r = rw (← add-one, where-or n e, bit-or, bit-pow-other n p (omega arith)) (omega (arith, r w))
-      by false e (inl w) r = rw (w, ← add-one, where-out n e, e) (where-above n n (omega arith))
-      by false e (inr w) r = rw (← add-one, where-out n e) (r w)
+      by : (b : Bool) → f n ≡ b → (p ≡ n) ⊎ (p < n) → (p < n → bit (setWhere f n) p ≡ cond (f p) 1 0)
+          → bit (setWhere f (suc n)) p ≡ cond (f p) 1 0
+      by true e (inl w) r =
+          rw (w, ← add-one n, where-or n e, e)
+          (omega (arith, bit-or (setWhere f n) (2 ^ n) n, bit-pow-same n, bit-lt (setWhere f n) n))
+      by true e (inr w) r = rw (← add-one n, where-or n e, bit-or, bit-pow-other n p (omega arith)) (omega (arith, r w))
+      by false e (inl w) r = rw (w, ← add-one n, where-out n e, e) (where-above n n (omega arith))
+      by false e (inr w) r = rw (← add-one n, where-out n e) (r w)
 
   pub where-has : (n p : ℕ) → p < n → has (setWhere f n) p ≡ f p
   where-has n p l = by (f p) refl
@@ -77,12 +81,11 @@ module _ (f : ℕ → Bool) where
 
 -- as many as f is true of
 pub where-size : (f : ℕ → Bool) (w n : ℕ) → n ≤ w → size w (setWhere f n) ≡ sum (λ i. cond (f i) 1 0) n
-unfolding sum
 where-size f w n h = size-wide n w (setWhere f n) (where-lt f n) h ∙ to n (le-refl n)
   where
     to : (m : ℕ) → m ≤ n → size m (setWhere f n) ≡ sum (λ i. cond (f i) 1 0) m
-    to zero l = size-none (setWhere f n)
-    to (suc m) l = omega (arith, size-more m (setWhere f n), to m (omega arith), where-bit f n m l)
+    to zero l = size-none (setWhere f n) ∙ sym (sum-zero (λ i. cond (f i) 1 0))
+    to (suc m) l = omega (arith, sum-suc (λ i. cond (f i) 1 0) m, size-more m (setWhere f n), to m (omega arith), where-bit f n m l)
 
 pub where-same : (f g : ℕ → Bool) (n : ℕ) → ((i : ℕ) → i < n → f i ≡ g i) → setWhere f n ≡ setWhere g n
 where-same f g zero h = where-none f ∙ sym (where-none g)

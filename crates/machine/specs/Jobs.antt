@@ -1,0 +1,62 @@
+-- The names for what a state holds: the job of task k, who runs, which partitions are busy and idle.
+-- Running jobs and idle partitions are counted from the jobs and what they hold; no count is stored.
+use Prim.Native.Nat.{ℕ, suc}
+use mathlib.Core.Bool.{Bool, true, false, cond}
+use lib.ListN.{set}
+use Rattle.maths.specs.Sums.{Σ}
+use Rattle.maths.specs.Tasks.{entry, lowest, tabulate}
+use Rattle.table.specs.declared.Task.{Task}
+use Rattle.table.specs.Limits.{mostTasks, mostPartitions}
+use Rattle.table.specs.Tasks.{P}
+use Rattle.sets.specs.Sets.{size, below, without}
+use Rattle.sets.specs.Families.{unionOf}
+use Rattle.machine.specs.declared.Stage.{Stage}
+use Rattle.machine.specs.declared.Stage.the-variants.{Idle, Waiting, Running}
+use Rattle.machine.specs.declared.Job.{Job}
+use Rattle.machine.specs.declared.Machine.{Machine}
+
+abbrev pub isIdle : Stage → Bool
+isIdle Idle = true
+isIdle Waiting = false
+isIdle Running = false
+
+abbrev pub isWaiting : Stage → Bool
+isWaiting Idle = false
+isWaiting Waiting = true
+isWaiting Running = false
+
+abbrev pub isRunning : Stage → Bool
+isRunning Idle = false
+isRunning Waiting = false
+isRunning Running = true
+
+abbrev pub noJob : Job
+noJob = record { stage = Idle; age = 0; ran = 0; held = 0 }
+
+-- the job of task k
+abbrev pub job : Machine → ℕ → Job
+job m k = entry (m .jobs) k noJob
+
+abbrev pub idles : Machine → ℕ → Bool
+idles m k = isIdle (job m k .stage)
+
+abbrev pub waits : Machine → ℕ → Bool
+waits m k = isWaiting (job m k .stage)
+
+abbrev pub runs : Machine → ℕ → Bool
+runs m k = isRunning (job m k .stage)
+
+-- how many jobs run
+unfoldable pub running : Machine → ℕ
+running m = Σ (m .table .n) (λ k. cond (runs m k) 1 0)
+
+-- the partitions that some job holds
+unfoldable pub busy : Machine → ℕ
+busy m = unionOf (m .table .n) (λ i. job m (suc i) .held)
+
+-- the partitions of the platform that no job holds, and how many they are
+abbrev pub idlePartitions : Machine → ℕ
+idlePartitions m = without (below (P (m .table))) (busy m)
+
+abbrev pub idleCount : Machine → ℕ
+idleCount m = size mostPartitions (idlePartitions m)

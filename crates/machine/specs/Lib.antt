@@ -1,0 +1,5 @@
+pub mod Jobs
+pub mod Fresh
+pub mod Conditions
+pub mod Steps
+pub mod Tick

@@ -1,0 +1,40 @@
+// The machine: a table and the job of each task, moved on by ticks under blocking FP_CA.
+use table::Refusal;
+use table::Table;
+
+pub enum Stage {
+    Idle,
+    Waiting,
+    Running,
+}
+
+// Of a task's job: age counts ticks since its release, ran those that it has run; held is its set of partitions.
+pub struct Job {
+    pub stage: Stage,
+    pub age: u32,
+    pub ran: u32,
+    pub held: u64,
+}
+
+pub struct Machine {
+    pub table: Table,
+    pub jobs: [Job; Table::MOST],
+}
+
+pub struct SetUp {
+    pub refused: Refusal,
+    pub machine: Machine,
+}
+
+// What a tick answers: three sets of tasks, or the refusal.
+pub struct Answer {
+    pub refused: Refusal,
+    pub finished: u32,
+    pub late: u32,
+    pub started: u32,
+}
+
+pub struct Ticked {
+    pub machine: Machine,
+    pub answer: Answer,
+}

@@ -19,18 +19,18 @@ module _ {n : ℕ} {rows : ℕ → Row} {top : ℕ → ℕ} {style : Style n row
       let last : idles (x (suc (t + d)) k) ≡ 0 = rw add-suc at (job .since (suc d) (omega arith)) in
       let more : age (x (suc (t + d)) k) ≡ suc (age (x (t + d) k)) =
       counts (rows k) (top k) (style .sound k p q) (style .held k p q)
-      (step (all-good c (t + d) k (omega arith) p q) (c .next (t + d) k (omega arith) p q))
-      (all-good c (t + d) k (omega arith) p q) (all-on-time c (t + d) k (omega arith) p q) (job .since d (omega arith)) last in
+      (step (all-good c (t + d) (omega arith) k p q) (c .next (t + d) (omega arith) k p q))
+      (all-good c (t + d) (omega arith) k p q) (all-on-time c (t + d) (omega arith) k p q) (job .since d (omega arith)) last in
       rw add-suc (omega arith)
 
   module _ (d : ℕ) (l : t + d ≤ N) (job : Unfinished x k t d) where
     -- A job that waits d ticks after its release can wait another, and be started before its slack is used up.
     pub waits-below-slack : waits (x (t + d) k) ≡ 1 → suc d < slack (rows k)
-    waits-below-slack w = omega (arith, age-counts d l job, waiting-age (rows k) (x (t + d) k) (all-on-time c (t + d) k l p q) w)
+    waits-below-slack w = omega (arith, age-counts d l job, waiting-age (rows k) (x (t + d) k) (all-on-time c (t + d) l k p q) w)
 
     -- One that has run r ticks, d ticks after its release, was started before its slack was used up.
     pub runs-below-slack : runs (x (t + d) k) ≡ 1 → d < ran (x (t + d) k) + slack (rows k)
-    runs-below-slack w = omega (arith, age-counts d l job, running-age (rows k) (x (t + d) k) (all-on-time c (t + d) k l p q) w)
+    runs-below-slack w = omega (arith, age-counts d l job, running-age (rows k) (x (t + d) k) (all-on-time c (t + d) l k p q) w)
 
     -- An unfinished job has a tick left to its deadline.
     pub ends-below-deadline : suc d < rows k .D
@@ -38,5 +38,5 @@ module _ {n : ℕ} {rows : ℕ → Row} {top : ℕ → ℕ} {style : Style n row
         omega (
           arith,
           age-counts d l job,
-          young (rows k) (x (t + d) k) (style .sound k p q) (all-good c (t + d) k l p q) (all-on-time c (t + d) k l p q) (job .since d (omega arith)),
+          young (rows k) (x (t + d) k) (style .sound k p q) (all-good c (t + d) l k p q) (all-on-time c (t + d) l k p q) (job .since d (omega arith)),
         )

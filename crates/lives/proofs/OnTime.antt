@@ -37,13 +37,13 @@ on-time-in-time row (running a r) o = omega arith
 -- A job that still waits can wait a tick more.
 pub waiting-age : (row : Row) (y : Life) → OnTime row y → waits y ≡ 1 → suc (age y) < slack row
 waiting-age row (idle a) o w = absurd (omega arith)
-waiting-age row (waiting a) o w = o
+waiting-age row (waiting a) o w = omega arith
 waiting-age row (running a r) o w = absurd (omega arith)
 
 pub running-age : (row : Row) (y : Life) → OnTime row y → runs y ≡ 1 → age y < ran y + slack row
 running-age row (idle a) o w = absurd (omega arith)
 running-age row (waiting a) o w = absurd (omega arith)
-running-age row (running a r) o w = o
+running-age row (running a r) o w = omega arith
 
 -- A job that was started in the tick before has waited less than its slack.
 pub started-age : (row : Row) (y : Life) → OnTime row y → runs y ≡ 1 → ran y ≡ 0 → age y < slack row

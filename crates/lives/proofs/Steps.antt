@@ -22,8 +22,8 @@ by-bits : (row : Row) (top : ℕ) (x : Life) (f r s : Bool) → Good row x → A
 by-bits row top (idle a) true r s g h = absurd (omega (arith, h .wasRunning refl))
 by-bits row top (idle a) false false false g h = still-idle
 by-bits row top (idle a) false false true g h = absurd (omega (arith, h .queued refl))
-by-bits row top (idle a) false true false g h = released (h .due refl)
-by-bits row top (idle a) false true true g h = released-started (h .due refl)
+by-bits row top (idle a) false true false g h = released {a = a} (omega (arith, h .due refl))
+by-bits row top (idle a) false true true g h = released-started {a = a} (omega (arith, h .due refl))
 by-bits row top (waiting a) true r s g h = absurd (omega (arith, h .wasRunning refl))
 by-bits row top (waiting a) false true s g h = absurd (omega (arith, h .free refl))
 by-bits row top (waiting a) false false false g h = still-waiting
@@ -33,8 +33,8 @@ by-bits row top (running a n) false false true g h = absurd (omega (arith, h .qu
 by-bits row top (running a n) false false false g h = still-running {r = n} (omega (arith, h .notOver refl refl))
 by-bits row top (running a n) true false true g h = absurd (omega (arith, h .queued refl))
 by-bits row top (running a n) true false false g h = finished
-by-bits row top (running a n) true true false g h = finished-released (h .due refl)
-by-bits row top (running a n) true true true g h = finished-released-started (h .due refl)
+by-bits row top (running a n) true true false g h = finished-released {a = a} (omega (arith, h .due refl))
+by-bits row top (running a n) true true true g h = finished-released-started {a = a} (omega (arith, h .due refl))
 
 pub step : {row : Row} {top : ℕ} {x y : Life} → Good row x → Next row top x y → Step row top x y
 step {row} {top} {x} {y} g h = subst (Step row top x) (h .lands) (by-bits row top x (h .finished) (h .released) (h .started) g (h .allowed))

@@ -6,7 +6,8 @@ use native.Mathlib.Omega.{arith}
 use native.Mathlib.Nat.{mul-le-mul-right, mul-le-mul-left, le-max-left, le-max-right}
 use Rattle.maths.specs.Sums.{sum, Σ}
 use Rattle.maths.proofs.Sums.{sum-mono, sum-const, sum-mul, Σ-mono, Σ-mul, Σ-swap}
-use Rattle.lives.specs.Test.{Full, busyCores, busyCache, weight}
+use Rattle.lives.specs.Tasks.{Each}
+use Rattle.lives.specs.Test.{Full, busyCores, busyCache, weight, Passes}
 
 module _ (n M B : ℕ) (A : ℕ → ℕ) where
   -- the weight of task i
@@ -42,8 +43,8 @@ module _ (n M B : ℕ) (A : ℕ → ℕ) where
       ))
 
   -- Where task i runs in I i of S states at the most, and these weigh less than M * B * S, some state is not full.
-  pub not-all-full : (r : ℕ → ℕ → ℕ) (I : ℕ → ℕ) (S : ℕ) → ((i : ℕ) → 1 ≤ i → i ≤ n → sum (λ e. r e i) S ≤ I i)
-      → Σ n (λ i. w i * I i) < M * B * S → ((e : ℕ) → e < S → Full n M B A (r e)) → ⊥
+  pub not-all-full : (r : ℕ → ℕ → ℕ) (I : ℕ → ℕ) (S : ℕ) → Each n (λ i. sum (λ e. r e i) S ≤ I i)
+      → Passes n M B A I S → ((e : ℕ) → e < S → Full n M B A (r e)) → ⊥
   not-all-full r I S few light full =
       omega (
         arith,

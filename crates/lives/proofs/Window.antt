@@ -4,7 +4,8 @@ use Prim.Native.Nat.{ℕ, zero, suc, _+_, _*_, _/_, _≤_, _<_}
 use native.Mathlib.Omega.{arith}
 use native.Mathlib.Nat.{mul-le-mul-right, le-div-iff-mul-le}
 use Rattle.maths.proofs.Sums.{sum-zero, sum-suc}
-use Rattle.lives.specs.Life.{Row, Sound, Life, idle, waiting, running, runs, count, Next, Good}
+use Rattle.lives.specs.Life.{Row, Sound, Life, idle, waiting, running, runs, count, InRow, Good}
+use Rattle.lives.specs.Test.{equation3}
 use Rattle.lives.proofs.Steps.{Step, step, Facts, same, new, facts, rest, aged, stays-good}
 
 -- What n + 1 states, of which `run` run and the last is y, have shown. `A` bounds the carry-in, the work of the job that the first state has, and `Z`
@@ -29,16 +30,13 @@ advance {y = y} (new w a t) s =
 
 -- The states of a life, each a tick after the one before it.
 module _ (row : Row) (top : ℕ) (v : Sound row) (x : ℕ → Life) (g : Good row (x 0)) where
-  abbrev pub Runs : ℕ → Type 0
-  Runs w = (e : ℕ) → suc e < w → Next row top (x e) (x (suc e))
-
-  all-good : (n : ℕ) → Runs (suc n) → Good row (x n)
+  all-good : (n : ℕ) → InRow row top x (suc n) → Good row (x n)
   all-good zero steps = g
   all-good (suc n) steps = stays-good v (all-good n (λ e l. steps e (omega arith))) (steps n (omega arith))
 
   -- The one induction over a window, for any bounds `A` and `Z` that the first state meets.
   pub seen : (A Z : ℕ) → runs (x 0) + rest row (x 0) ≤ A → A + aged row (x 0) ≤ Z → row .C ≤ Z
-      → (n : ℕ) → Runs (suc n) → Seen row A Z n (count x (suc n)) (x n)
+      → (n : ℕ) → InRow row top x (suc n) → Seen row A Z n (count x (suc n)) (x n)
   seen A Z hA hZ hC zero steps =
       record {
         releases = 0;
@@ -47,7 +45,7 @@ module _ (row : Row) (top : ℕ) (v : Sound row) (x : ℕ → Life) (g : Good ro
         apart = omega arith;
       }
   seen A Z hA hZ hC (suc n) steps =
-      let before : Runs (suc n) = λ e l. steps e (omega arith) in
+      let before : InRow row top x (suc n) = λ e l. steps e (omega arith) in
       rw (sum-suc (λ e. runs (x e)) (suc n))
       (advance (facts v (step (all-good n before) (steps n (omega arith)))) (seen A Z hA hZ hC n before))
 
@@ -63,7 +61,7 @@ releases-le T n (suc i) h l = omega (arith, le-div-iff-mul-le {k = T} {x = i} {y
 
 -- Equation 3, from any good state.
 pub equation-3 : (row : Row) (top : ℕ) → Sound row → (x : ℕ → Life) (w : ℕ) → Good row (x 0)
-    → ((e : ℕ) → suc e < w → Next row top (x e) (x (suc e))) → count x w ≤ (w / row .T + 2) * row .C
+    → InRow row top x w → count x w ≤ equation3 row w
 equation-3 row top v x zero g steps = omega (arith, sum-zero (λ e. runs (x e)))
 equation-3 row top v x (suc n) g steps =
     let s : Seen row (row .C) (row .T + row .C) n (count x (suc n)) (x n) =

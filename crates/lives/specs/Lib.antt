@@ -1,3 +1,4 @@
+pub mod Tasks
 pub mod Life
 pub mod Style
 pub mod Test

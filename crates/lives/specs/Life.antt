@@ -103,6 +103,10 @@ pub record Next (row : Row) (top : ℕ) (x y : Life) : Type 0 where
   pub allowed : Allowed row (rise top x) finished released started
   pub lands : start started (release released (finish finished (rise top x))) ≡ y
 
+-- x 0 to x (w - 1) are states in a row of one life
+abbrev pub InRow : Row → ℕ → (ℕ → Life) → ℕ → Type 0
+InRow row top x w = (e : ℕ) → suc e < w → Next row top (x e) (x (suc e))
+
 -- of the conditions of a state, the one that the theory needs: a running job has run C - 1 ticks at most
 abbrev pub Good : Row → Life → Type 0
 Good row (idle a) = Unit {0}

@@ -1,7 +1,7 @@
 -- Theorem 2 of the report with equation 3: the base's style, and what a course of it keeps.
 use mathlib.Core.Path.{_≡_}
 use Prim.Native.Nat.{ℕ, suc, _≤_, _<_}
-use Rattle.lives.specs.Tasks.{Each}
+use Rattle.maths.specs.Tasks.{Each}
 use Rattle.lives.specs.Life.{Row, slack, Life, idle, waits, runs, Next, Good, OnTime}
 use Rattle.lives.specs.Style.{Style, Course}
 use Rattle.lives.specs.Test.{Full, interference, Admitted}

@@ -6,7 +6,7 @@ use native.Mathlib.Omega.{arith}
 use native.Mathlib.Nat.{add-zero, add-suc}
 use native.Mathlib.Decide.{decLe, decLt}
 use Rattle.maths.proofs.Sums.{sum-const}
-use Rattle.lives.specs.Tasks.{Each}
+use Rattle.maths.specs.Tasks.{Each}
 use Rattle.lives.specs.Life.{Row, slack, Life, idle, waiting, running, waits, runs, Good, InTime, OnTime}
 use Rattle.lives.specs.Style.{Problem, Style, Course}
 use Rattle.lives.proofs.Steps.{Step, still-idle, released, released-started, still-waiting, started, still-running, finished, finished-released, finished-released-started, step, stays-good}

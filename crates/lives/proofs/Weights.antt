@@ -6,7 +6,7 @@ use native.Mathlib.Omega.{arith}
 use native.Mathlib.Nat.{mul-le-mul-right, mul-le-mul-left, le-max-left, le-max-right}
 use Rattle.maths.specs.Sums.{sum, Σ}
 use Rattle.maths.proofs.Sums.{sum-mono, sum-const, sum-mul, Σ-mono, Σ-mul, Σ-swap}
-use Rattle.lives.specs.Tasks.{Each}
+use Rattle.maths.specs.Tasks.{Each}
 use Rattle.lives.specs.Test.{Full, busyCores, busyCache, weight, Passes}
 
 module _ (n M B : ℕ) (A : ℕ → ℕ) where

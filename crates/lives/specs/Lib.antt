@@ -1,4 +1,3 @@
-pub mod Tasks
 pub mod Life
 pub mod Style
 pub mod Test

@@ -3,7 +3,7 @@
 use mathlib.Core.Path.{_≡_}
 use Prim.Native.Nat.{ℕ, suc, _+_, _≤_, _<_}
 use Rattle.maths.specs.Sums.{sum}
-use Rattle.lives.specs.Tasks.{Each}
+use Rattle.maths.specs.Tasks.{Each}
 use Rattle.lives.specs.Life.{Row, Sound, slack, Life, idle, waiting, age, idles, waits, runs, count, Next, InRow, Good, InTime}
 
 -- The report's problem window of task k: S states y 0, y 1, .. from the one that k's job is released in, in all of which that job waits.

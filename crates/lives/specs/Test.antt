@@ -1,7 +1,7 @@
 -- The report's second test, theorem 2 multiplied by M × B, with the interference of its equation 3; and what its lemma 1 says of a state.
 use Prim.Native.Nat.{ℕ, _+_, _*_, _/_, _≤_, _<_, max}
 use Rattle.maths.specs.Sums.{Σ}
-use Rattle.lives.specs.Tasks.{Each}
+use Rattle.maths.specs.Tasks.{Each}
 use Rattle.lives.specs.Life.{Row, Sound, slack}
 
 -- Of n tasks, of which i asks for A i partitions and runs r i times (1 or 0), all M cores are busy, or B partitions are.

@@ -12,7 +12,12 @@ use borrow.Author.Tests.{eq-eqb, ne-eqb, eqb-true, eqb-false}
 use lib.Dec.{eqb, eqb·suc-zero}
 use lib.ListN.{length, getD, set, length-append, length-set, List·getD-append}
 use lib.Seq.{getD-at, getD-set-same, getD-set-other, ext-getD}
-use Rattle.maths.specs.Tasks.{every, orElse, lowest, tabulate}
+use Rattle.maths.specs.Tasks.{Each, every, orElse, lowest, tabulate}
+
+-- what holds of i + 1 for each i below n holds of each task
+pub each : (n : ℕ) (P : ℕ → Type 0) → ((i : ℕ) → i < n → P (suc i)) → Each n P
+each n P h zero l m = absurd (omega arith)
+each n P h (suc i) l m = h i (omega arith)
 
 pub lowest-zero : (f : ℕ → Bool) → lowest 0 f ≡ 0
 unfolding lowest

@@ -1,10 +1,14 @@
--- Tasks are numbered from 1: a test asked of tasks 1 to n, the lowest of them that meets it, a list with an entry for each.
-use Prim.Native.Nat.{ℕ, zero, suc}
+-- Tasks are numbered from 1: a fact or a test asked of tasks 1 to n, the lowest of them that meets it, a list with an entry for each.
+use Prim.Native.Nat.{ℕ, zero, suc, _≤_}
 use mathlib.Core.Bool.{Bool, true, false, cond, _&&_}
 use mathlib.Core.List.{List, [], _∷_, _++_}
 use lib.ListN.{getD}
 
--- f holds of each of 1 to n
+-- P holds of each of 1 to n
+abbrev pub Each : ℕ → (ℕ → Type 0) → Type 0
+Each n P = (k : ℕ) → 1 ≤ k → k ≤ n → P k
+
+-- the test f holds of each of 1 to n
 unfoldable pub every : ℕ → (ℕ → Bool) → Bool
 every zero f = true
 every (suc n) f = every n f && f (suc n)

@@ -27,13 +27,20 @@ B t k = P t - Amax t k + 1
 unfoldable pub interference : Table → ℕ → ℕ → ℕ
 interference t k i = (S t k / T (τ t i) + 2) * C (τ t i)
 
--- max(1 / M, A_i / B) of theorem 2, times M × B
+-- max(1 / M, A_i / B) of theorem 2, times M × B, of a task that asks for a partitions
+abbrev pub weightOf : ℕ → ℕ → ℕ → ℕ
+weightOf m b a = max b (m * a)
+
+-- χ* of theorem 2, times M × B, of n tasks where task i asks for a i partitions and has interference x i
+abbrev pub loadOf : (n m b : ℕ) → (a x : ℕ → ℕ) → ℕ
+loadOf n m b a x = Σ n (λ i. weightOf m b (a i) * x i)
+
 abbrev pub weight : Table → ℕ → ℕ → ℕ
-weight t k i = max (B t k) (M t * A (τ t i))
+weight t k i = weightOf (M t) (B t k) (A (τ t i))
 
 -- χ*_k of theorem 2, times M × B
 unfoldable pub load : Table → ℕ → ℕ
-load t k = Σ (t .n) (λ i. weight t k i * interference t k i)
+load t k = loadOf (t .n) (M t) (B t k) (λ i. A (τ t i)) (interference t k)
 
 -- S_k of equation 9, times M × B
 unfoldable pub limit : Table → ℕ → ℕ

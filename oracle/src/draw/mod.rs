@@ -1,0 +1,3 @@
+//! Generators. All of them draw from one seeded source, so a run can be repeated.
+
+pub mod tables;

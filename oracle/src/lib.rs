@@ -1,0 +1,10 @@
+//! The second program for the rules of document 01: written from that document alone, apart from the proved one, and plainly.
+
+pub mod admission;
+pub mod cases_admission;
+pub mod counts;
+pub mod draw;
+pub mod files;
+pub mod records;
+pub mod rng;
+pub mod table;

@@ -1,0 +1,41 @@
+//! The commands of the second program.
+//!
+//!     oracle cases KIND COUNT SEED CASES EXPECTED   write cases of the kind (admission) and the answers expected of them
+//!     oracle judge CASES EXPECTED GOT               hold the answers that were got to those expected
+
+use oracle::{cases_admission, files};
+use std::process::ExitCode;
+
+fn number(word: &str) -> u64 {
+    word.parse().unwrap_or_else(|_| panic!("'{word}' is no number"))
+}
+
+fn run(words: &[&str]) -> std::io::Result<bool> {
+    match words {
+        ["cases", kind, count, seed, cases, expected] => {
+            let (count, seed, pair) = (number(count), number(seed), files::Pair::create(cases, expected)?);
+            match *kind {
+                "admission" => cases_admission::write(count, seed, pair),
+                _ => Err(std::io::Error::other(format!("no kind of case '{kind}'"))),
+            }
+        }
+        ["judge", cases, expected, got] => {
+            let (passed, failed) = files::judge(cases, expected, got)?;
+            println!("{passed} passed, {failed} failed");
+            Ok(failed == 0)
+        }
+        _ => Err(std::io::Error::other("usage: oracle cases KIND COUNT SEED CASES EXPECTED, or judge CASES EXPECTED GOT")),
+    }
+}
+
+fn main() -> ExitCode {
+    let words: Vec<String> = std::env::args().skip(1).collect();
+    match run(&words.iter().map(String::as_str).collect::<Vec<_>>()) {
+        Ok(true) => ExitCode::SUCCESS,
+        Ok(false) => ExitCode::FAILURE,
+        Err(e) => {
+            eprintln!("oracle: {e}");
+            ExitCode::from(2)
+        }
+    }
+}

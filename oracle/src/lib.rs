@@ -2,9 +2,11 @@
 
 pub mod admission;
 pub mod cases_admission;
+pub mod cases_machine;
 pub mod counts;
 pub mod draw;
 pub mod files;
+pub mod machine;
 pub mod records;
 pub mod rng;
 pub mod table;

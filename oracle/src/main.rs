@@ -1,9 +1,9 @@
 //! The commands of the second program.
 //!
-//!     oracle cases KIND COUNT SEED CASES EXPECTED   write cases of the kind (admission) and the answers expected of them
+//!     oracle cases KIND COUNT SEED CASES EXPECTED   write cases of the kind (admission, machine) and the answers expected of them
 //!     oracle judge CASES EXPECTED GOT               hold the answers that were got to those expected
 
-use oracle::{cases_admission, files};
+use oracle::{cases_admission, cases_machine, files};
 use std::process::ExitCode;
 
 fn number(word: &str) -> u64 {
@@ -16,6 +16,7 @@ fn run(words: &[&str]) -> std::io::Result<bool> {
             let (count, seed, pair) = (number(count), number(seed), files::Pair::create(cases, expected)?);
             match *kind {
                 "admission" => cases_admission::write(count, seed, pair),
+                "machine" => cases_machine::write(count, seed, pair),
                 _ => Err(std::io::Error::other(format!("no kind of case '{kind}'"))),
             }
         }

@@ -1,3 +1,5 @@
 //! Generators. All of them draw from one seeded source, so a run can be repeated.
 
+pub mod reports;
+pub mod states;
 pub mod tables;

@@ -54,7 +54,7 @@ pub fn any(rng: &mut Rng) -> Table {
 }
 
 /// Brings the rows to 32: zeros, or what an earlier use left there.
-fn fill(rng: &mut Rng, table: &mut Table) {
+pub fn fill(rng: &mut Rng, table: &mut Table) {
     let left_over = rng.once_in(2);
     while table.rows.len() < ROWS {
         let row = if left_over { wild_row(rng) } else { Row::default() };
@@ -212,8 +212,8 @@ pub fn damaged(rng: &mut Rng) -> Table {
     table
 }
 
-fn spoil(rng: &mut Rng, table: &mut Table) {
-    let at = rng.index(table.rows.len());
+pub fn spoil(rng: &mut Rng, table: &mut Table) {
+    let at = rng.index(table.rows.len().min(table.n as usize).max(1));
     let p = table.p;
     let row = &mut table.rows[at];
     match rng.range(1, 8) {

@@ -268,10 +268,9 @@ impl Machine {
         Some(k)
     }
 
-    /// A number for the whole record, by which two records are compared: n, M, P, the 32 rows and the 32 jobs, each number in turn
-    /// as h = (1,000,003 h + x) mod 4,294,967,291, those of 64 bits as two of 32, the low one first.
+    /// A number for the whole record, by which two records are compared: of n, M, P, the 32 rows and the 32 jobs, those of 64 bits
+    /// taken as two of 32, the low one first.
     pub fn digest(&self) -> u32 {
-        const PRIME: u64 = 4_294_967_291;
         let halves = |x: u64| [(x & 0xffff_ffff) as u32, (x >> 32) as u32];
         let mut numbers = halves(self.table.n).to_vec();
         numbers.extend([self.table.m, self.table.p]);
@@ -280,8 +279,13 @@ impl Machine {
             numbers.extend([job.stage as u32, job.age, job.ran]);
             numbers.extend(halves(number_of(&job.held)));
         }
-        numbers.iter().fold(0, |h: u64, &x| (1_000_003 * h + u64::from(x)) % PRIME) as u32
+        digest(numbers)
     }
+}
+
+/// One number for many: h = (1,000,003 h + x) mod 4,294,967,291 for each in turn, from 0.
+pub fn digest(numbers: impl IntoIterator<Item = u32>) -> u32 {
+    numbers.into_iter().fold(0, |h: u64, x| (1_000_003 * h + u64::from(x)) % 4_294_967_291) as u32
 }
 
 #[cfg(test)]

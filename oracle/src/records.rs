@@ -2,6 +2,11 @@
 //! kind's fields alone. Numbers are little-endian. A text is its length, 4 bytes, and its bytes. There is nothing between records.
 //!
 //! The fields of a kind are stated once, below; what is written is checked against them and what is read is read by them.
+//!
+//!     A  both admission answers           P  a platform text is read       C  the call from C
+//!     S  set-up of the machine kept       K  a tasks text is read          M  the program "admit"
+//!     T  a tick of the machine kept       R  a ticks text is read          N  the program "ticks"
+//!     X  a tick of a machine given        W  platform and tasks texts are written
 
 use std::io::{self, Read};
 
@@ -66,6 +71,20 @@ pub fn case_fields(kind: u8) -> Option<Vec<Field>> {
             all.extend(job_fields());
             all.extend(report_fields());
         }
+        b'P' | b'K' | b'R' => all.push(field("text", Text)),
+        b'C' => all.extend([field("platform", Text), field("tasks", Text)]),
+        b'M' | b'N' => {
+            for name in ["platform", "tasks"] {
+                all.extend([field(format!("{name} there"), U32), field(name, Text)]);
+            }
+            if kind == b'N' {
+                all.push(field("ticks", Text));
+            }
+        }
+        b'W' => {
+            all.extend(table_fields());
+            all.extend([field("platform buffer", U32), field("tasks buffer", U32)]);
+        }
         _ => return None,
     }
     Some(all)
@@ -88,6 +107,20 @@ pub fn answer_fields(kind: u8) -> Option<Vec<Field>> {
         b'T' | b'X' => {
             all.extend([field("number", U32), field("task", U64), field("finished", U32)]);
             all.extend([field("late", U32), field("started", U32), field("digest", U32)]);
+        }
+        b'P' => {
+            all.extend([field("number", U32), field("offset", U64)]);
+            all.extend([field("M", U32), field("P", U32)]);
+        }
+        b'K' | b'R' => {
+            all.extend([field("number", U32), field("offset", U64)]);
+            all.extend([field("rows", U64), field("digest", U32)]);
+        }
+        b'C' => all.push(field("answer", U32)),
+        b'M' | b'N' => all.push(field("listing", Text)),
+        b'W' => {
+            all.extend([field("number", U32), field("row", U64)]);
+            all.extend([field("platform buffer", Text), field("tasks buffer", Text)]);
         }
         _ => return None,
     }

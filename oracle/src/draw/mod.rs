@@ -3,3 +3,4 @@
 pub mod reports;
 pub mod states;
 pub mod tables;
+pub mod texts;

@@ -1,8 +1,10 @@
 //! The commands of the second program.
 //!
-//!     oracle cases KIND COUNT SEED CASES EXPECTED   write cases of the kind (admission, machine, texts) and the answers expected of them
-//!     oracle folders COUNT SEED FOLDER              write COUNT folders with the files of the two programs and what they must write
-//!     oracle judge CASES EXPECTED GOT               hold the answers that were got to those expected
+//! ```text
+//! oracle cases KIND COUNT SEED CASES EXPECTED   write cases of the kind (admission, machine, texts) and the answers expected of them
+//! oracle folders COUNT SEED FOLDER              write COUNT folders with the files of the two programs and what they must write
+//! oracle judge CASES EXPECTED GOT               hold the answers that were got to those expected
+//! ```
 
 use oracle::{cases_admission, cases_machine, cases_texts, files};
 use std::process::ExitCode;

@@ -11,5 +11,6 @@ pub mod machine;
 pub mod programs;
 pub mod records;
 pub mod rng;
+pub mod search;
 pub mod table;
 pub mod texts;

@@ -3,7 +3,7 @@
 use crate::table::{Refused, Row, Table, ROWS};
 use std::collections::BTreeSet;
 
-#[derive(Clone, Copy, Debug, PartialEq, Eq)]
+#[derive(Clone, Copy, Debug, PartialEq, Eq, Hash)]
 pub enum Stage {
     Idle,
     Waiting,
@@ -11,7 +11,7 @@ pub enum Stage {
 }
 
 /// What a task does. The partitions held are listed upwards.
-#[derive(Clone, Debug, PartialEq, Eq)]
+#[derive(Clone, Debug, PartialEq, Eq, Hash)]
 pub struct Job {
     pub stage: Stage,
     pub age: u32,

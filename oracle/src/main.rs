@@ -3,10 +3,11 @@
 //! ```text
 //! oracle cases KIND COUNT SEED CASES EXPECTED   write cases of the kind (admission, machine, texts) and the answers expected of them
 //! oracle folders COUNT SEED FOLDER              write COUNT folders with the files of the two programs and what they must write
+//! oracle search TICKS SEED                      look for a counterexample to demand 3, and see how tight the test is
 //! oracle judge CASES EXPECTED GOT               hold the answers that were got to those expected
 //! ```
 
-use oracle::{cases_admission, cases_machine, cases_texts, files};
+use oracle::{cases_admission, cases_machine, cases_texts, files, search};
 use std::process::ExitCode;
 
 fn number(word: &str) -> u64 {
@@ -25,13 +26,18 @@ fn run(words: &[&str]) -> std::io::Result<bool> {
             }
         }
         ["folders", count, seed, folder] => cases_texts::folders(number(count), number(seed), folder).map(|()| true),
+        ["search", ticks, seed] => {
+            let (passed, failed) = search::search(number(ticks), number(seed));
+            println!("{passed} passed, {failed} failed");
+            Ok(failed == 0)
+        }
         ["judge", cases, expected, got] => {
             let (passed, failed) = files::judge(cases, expected, got)?;
             println!("{passed} passed, {failed} failed");
             Ok(failed == 0)
         }
         _ => Err(std::io::Error::other(
-            "usage: oracle cases KIND COUNT SEED CASES EXPECTED | folders COUNT SEED FOLDER | judge CASES EXPECTED GOT",
+            "usage: oracle cases KIND COUNT SEED CASES EXPECTED | folders COUNT SEED FOLDER | search TICKS SEED | judge CASES EXPECTED GOT",
         )),
     }
 }

@@ -165,7 +165,7 @@ mod tests {
         let mut beginnings: Vec<Vec<u8>> = vec![vec![]];
         for form in [&few, &one] {
             let mut level = vec![b"h\r\n".to_vec()];
-            for _ in 0..6 {
+            for _ in 0..5 {
                 level = level.iter().flat_map(|b| alphabet.iter().map(move |&x| [&b[..], &[x]].concat())).collect();
                 let goods = level.iter().filter(|text| good(form, text).is_some());
                 for text in goods {

@@ -126,28 +126,52 @@ fn least_slack(table: &Table, k: usize) -> Option<u32> {
     }
 }
 
-/// Every task has the shortest deadline with which it passes, or one tick more or less. A margin hangs on the deadline of its own
-/// task alone, so each can be put at its edge.
+/// How far a deadline lies from the shortest with which its task passes.
+#[derive(Clone, Copy, Debug, PartialEq, Eq)]
+pub enum Edge {
+    /// Every task just passes.
+    Within,
+    /// One task has a tick too few, the others just pass.
+    OneShort,
+    /// Every slack is so many hundredths of the least with which the task passes.
+    Share(u32),
+}
+
+/// The table with its deadlines put at the edge of admission; none where some task cannot pass within its period. A margin hangs on
+/// the deadline of its own task alone, so each can be put at its edge.
+pub fn at_edge(rng: &mut Rng, mut table: Table, edge: Edge) -> Option<Table> {
+    let least: Vec<u32> = (1..=table.rows.len()).map(|k| least_slack(&table, k)).collect::<Option<_>>()?;
+    let short = rng.index(table.rows.len());
+    for (i, row) in table.rows.iter_mut().enumerate() {
+        let s = match edge {
+            Edge::OneShort if i == short => least[i].saturating_sub(1),
+            Edge::Share(hundredths) => least[i] * hundredths / 100,
+            _ => least[i],
+        };
+        row.d = row.c + s;
+    }
+    Some(table)
+}
+
+/// Every task has the shortest deadline with which it passes, or one near it.
 pub fn edge(rng: &mut Rng) -> Table {
     for tries in 1..=8 {
-        let mut table = light(rng, tries);
-        let least: Vec<Option<u32>> = (1..=table.rows.len()).map(|k| least_slack(&table, k)).collect();
-        if least.iter().any(Option::is_none) && tries < 8 {
-            continue;
-        }
+        let table = light(rng, tries);
         let how = rng.range(0, 5);
-        let below = rng.index(table.rows.len());
-        for (i, row) in table.rows.iter_mut().enumerate() {
-            let s = least[i].unwrap_or(row.t - row.c);
-            let s = match how {
-                0 | 1 => s,
-                2 if i == below => s.saturating_sub(1),
-                2 => s,
-                3 => s + 1,
-                4 => (s + rng.range(0, 2)).saturating_sub(1),
-                _ => rng.range(s, row.t - row.c),
+        let edge = if how == 2 { Edge::OneShort } else { Edge::Within };
+        let Some(mut table) = at_edge(rng, table.clone(), edge) else {
+            if tries < 8 {
+                continue;
+            }
+            return Table { rows: table.rows.iter().map(|row| Row { d: row.t, ..*row }).collect(), ..table };
+        };
+        for row in &mut table.rows {
+            row.d = match how {
+                0..=2 => row.d,
+                3 => (row.d + 1).min(row.t),
+                4 => (row.d + rng.range(0, 2)).saturating_sub(1).clamp(row.c, row.t),
+                _ => rng.range(row.d, row.t),
             };
-            row.d = (row.c + s).min(row.t);
         }
         return table;
     }
@@ -156,19 +180,29 @@ pub fn edge(rng: &mut Rng) -> Table {
 
 /// Long periods and short runs: the more `tries`, the lighter.
 fn light(rng: &mut Rng, tries: u32) -> Table {
-    let (m, p) = (rng.range(1, 16), rng.range(1, 64));
-    let n = count(rng);
-    let widest = rng.scaled(0, p);
+    let (m, p, n) = (rng.range(1, 16), rng.range(1, 64), count(rng));
     let shortest = rng.scaled(20 * tries, 8_000);
+    lightly(rng, m, p, n, shortest, (2 + 2 * tries, 6 + 2 * tries))
+}
+
+/// A table of small numbers, light enough that most can be admitted, so that a machine comes round in few ticks.
+pub fn short(rng: &mut Rng) -> Table {
+    let (m, p, n) = (rng.range(1, 4), rng.range(1, 8), rng.range(1, 7) as usize);
+    let shortest = rng.range(8, 60);
+    lightly(rng, m, p, n, shortest, (3, 12))
+}
+
+/// Periods from `shortest` on, and runs that together take about one part in `parts` of what the platform can carry in the shortest.
+fn lightly(rng: &mut Rng, m: u32, p: u32, n: usize, shortest: u32, parts: (u32, u32)) -> Table {
+    let widest = rng.scaled(0, p);
     let most = rng.range(1, 8);
-    let base = Row { d: 1, t: 1, c: 1, a: 0 };
-    let mut rows = vec![base; n];
+    let mut rows = vec![Row { d: 1, t: 1, c: 1, a: 0 }; n];
     for row in &mut rows {
         row.a = rng.scaled(0, widest);
         row.t = rng.range(shortest, (shortest * most).min(65_535));
     }
     let b = u64::from(p - rows.iter().map(|i| i.a).max().unwrap() + 1);
-    let part = u64::from(rng.range(2, 6) + 2 * tries);
+    let part = u64::from(rng.range(parts.0, parts.1));
     for row in &mut rows {
         let weight = b.max(u64::from(m) * u64::from(row.a));
         let share = u64::from(m) * b * u64::from(shortest) / (part * n as u64 * weight);

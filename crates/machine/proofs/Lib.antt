@@ -1,2 +1,2 @@
-pub mod State
+pub mod StateParts
 pub mod StateTest

@@ -1,2 +1,3 @@
 pub mod StateParts
 pub mod StateTest
+pub mod StateLoops

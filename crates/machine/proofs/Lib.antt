@@ -1,0 +1,3 @@
+pub mod StateParts
+pub mod StateTest
+pub mod StateLoops

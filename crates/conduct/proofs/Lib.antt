@@ -1,0 +1,2 @@
+-- Laws of an accepted tick, for what is proved of sequences of ticks.
+pub mod Accepted

@@ -1,2 +1,3 @@
 -- Laws of an accepted tick, for what is proved of sequences of ticks.
 pub mod Accepted
+pub mod Lives

@@ -1,3 +1,6 @@
 -- Laws of an accepted tick, for what is proved of sequences of ticks.
 pub mod Accepted
 pub mod Lives
+pub mod Idle
+pub mod Ready
+pub mod Begin

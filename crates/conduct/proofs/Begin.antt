@@ -26,7 +26,7 @@ use Rattle.machine.specs.declared.Machine.{Machine}
 use Rattle.machine.specs.Jobs.{isWaiting, isRunning, noJob, job, waits, runs, running, busy, idlePartitions, idleCount}
 use Rattle.machine.specs.Steps.{fits, begun, start}
 use Rattle.machine.proofs.Jobs.{start-same, start-other}
-use Rattle.machine.proofs.State.{GoodJob, GoodState}
+use Rattle.machine.proofs.StateParts.{GoodJob, GoodState}
 use Rattle.conduct.proofs.Lives.{one}
 
 pub waits-not-runs : (s : Stage) → isWaiting s ≡ true → isRunning s ≡ false

@@ -14,7 +14,7 @@ use Rattle.sets.proofs.Unions.{union-size}
 use Rattle.machine.specs.declared.Job.{Job}
 use Rattle.machine.specs.declared.Machine.{Machine}
 use Rattle.machine.specs.Jobs.{isRunning, job, running, busy, idleCount}
-use Rattle.machine.proofs.State.{GoodJob, GoodState, when-running, when-not-running, busy-lt}
+use Rattle.machine.proofs.StateParts.{GoodJob, GoodState, when-running, when-not-running, busy-lt}
 use Rattle.lives.specs.Life.{runs}
 use Rattle.conduct.specs.Lives.{life}
 use Rattle.conduct.proofs.Lives.{one, shows}

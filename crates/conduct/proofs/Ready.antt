@@ -23,7 +23,7 @@ use Rattle.machine.specs.Jobs.{isIdle, isRunning, noJob, job, runs, running}
 use Rattle.machine.specs.Steps.{forTasks, older, awaiting}
 use Rattle.machine.specs.Tick.{readied}
 use Rattle.machine.proofs.Jobs.{for-past, finishedJob, readiedJob, readied-pass, passed-job, finished-job, readied-job, readied-table}
-use Rattle.machine.proofs.State.{GoodJob, GoodState, when-idle}
+use Rattle.machine.proofs.StateParts.{GoodJob, GoodState, when-idle}
 use Rattle.conduct.proofs.Accepted.{Accepted}
 use Rattle.conduct.proofs.Lives.{one}
 

@@ -1,3 +1,3 @@
 pub mod Jobs
-pub mod State
+pub mod StateParts
 pub mod StateTest

@@ -4,3 +4,4 @@ pub mod Lives
 pub mod Idle
 pub mod Ready
 pub mod Begin
+pub mod Starting

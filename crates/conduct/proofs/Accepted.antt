@@ -1,23 +1,26 @@
 -- What it says of each task that none of refusals 14 and 9 to 13 is given, and what it says that 13 is.
-use Prim.Native.Nat.{ℕ, zero, suc, _<_, _≤_}
+use Prim.Native.Nat.{ℕ, zero, suc, _≤_}
 use mathlib.Core.Path.{_≡_, refl, sym, _∙_}
 use mathlib.Core.Bool.{Bool, true, false, cond, not, _&&_, _||_, true≢false}
 use mathlib.Core.List.{List, [], _∷_}
 use mathlib.Core.Logic.{_≢_}
 use native.Mathlib.Omega.{arith}
-use borrow.Author.Tests.{lt-ltb, ltb-false, eqb-true, eqb-false, not-false}
-use lib.Dec.{eqb, ltb}
+use borrow.Author.Tests.{ltb-false, eqb-true, eqb-false, not-false}
+use lib.Dec.{eqb}
 use Rattle.maths.specs.Rules.{Rule, rule}
 use Rattle.maths.specs.Tasks.{Each, lowest}
 use Rattle.maths.proofs.Tasks.{each, lowest-none, lowest-holds}
+use Rattle.table.specs.declared.Task.{Task}
 use Rattle.table.specs.Limits.{mostTasks}
 use Rattle.table.specs.Tasks.{τ, T, C}
 use Rattle.sets.specs.TaskSets.{hasTask}
+use Rattle.machine.specs.declared.Job.{Job}
 use Rattle.machine.specs.declared.Machine.{Machine}
-use Rattle.machine.specs.Jobs.{job, idles, runs}
+use Rattle.machine.specs.Jobs.{isIdle, isRunning, job, idles, runs}
 use Rattle.machine.specs.Conditions.{goodState}
-use Rattle.machine.specs.Steps.{passed, finish}
+use Rattle.machine.specs.Steps.{older, passed, finish}
 use Rattle.machine.specs.Tick.{tickRules, firstGiven, tickRefusal, accepted}
+use Rattle.machine.proofs.Jobs.{finishedJob, passed-job, finished-job}
 
 -- none of 9 to 12 is given: refusals are tried in that order
 pub record Before13 (m : Machine) (released finished : ℕ) : Type 0 where
@@ -128,3 +131,21 @@ module _ (m : Machine) (R F : ℕ) where
       let none : firstGiven (rule 13 (λ k. hasTask R k && not (idles (finish F (passed m)) k)) ∷ []) .number ≡ 0 =
       passed-over _ (none-of _ (λ k l h. fails _ _ (idle (all .before) k l h))) in
       omega (arith, all .last)
+
+-- Of a task τ and its job j, finished and released as f and r say: that none of 10 to 13 is given.
+pub record Taken (τ : Task) (r f : Bool) (j : Job) : Type 0 where
+  pub wasRunning : f ≡ true → isRunning (j .stage) ≡ true
+  pub notOver : isRunning (j .stage) ≡ true → f ≡ false → older τ j .ran ≢ C τ
+  pub due : r ≡ true → T τ ≤ older τ j .age
+  pub free : r ≡ true → isIdle (finishedJob τ f j .stage) ≡ true
+
+pub taken : (m : Machine) (R F : ℕ) → m .table .n ≤ mostTasks → Accepted m R F
+    → Each (m .table .n) (λ k. Taken (τ (m .table) k) (hasTask R k) (hasTask F k) (job m k))
+taken m R F few a k l h =
+    let in-32 : k ≤ mostTasks = omega arith in
+    record {
+      wasRunning = a .before .ran k l in-32;
+      notOver = λ p q. rw (passed-job m k l h in-32) at (a .before .over k l in-32 p q);
+      due = λ p. rw (passed-job m k l h in-32) at (a .before .due k l in-32 p);
+      free = λ p. rw (finished-job m k l h in-32 F) at (a .free k l in-32 p);
+    }

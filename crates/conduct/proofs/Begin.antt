@@ -1,8 +1,7 @@
 -- One start of step 5: a waiting job that fits leaves a good state, whichever idle partitions it is given.
-use Prim.Native.Nat.{ℕ, suc, _+_, _-_, _^_, _<_, _≤_, zero-le}
+use Prim.Native.Nat.{ℕ, suc, _^_, _<_, _≤_, zero-le}
 use mathlib.Core.Path.{_≡_, refl, sym, _∙_, ap}
-use mathlib.Core.Bool.{Bool, true, false, true≢false}
-use mathlib.Core.Logic.{_≢_}
+use mathlib.Core.Bool.{true, false, true≢false}
 use native.Mathlib.Decide.{decLt, ℕ-discrete}
 use native.Mathlib.Nat.{lt-of-le-of-lt, sub-le}
 use native.Mathlib.Omega.{arith}
@@ -12,7 +11,6 @@ use lib.ListN.{length, List·getD-eq-default}
 use lib.Pow.{ones-lt}
 use Rattle.maths.proofs.Sums.{sum-but}
 use Rattle.maths.proofs.Tests.{both}
-use Rattle.table.specs.Limits.{mostTasks}
 use Rattle.table.specs.Tasks.{M, P, τ, A}
 use Rattle.sets.specs.Sets.{below}
 use Rattle.sets.specs.Families.{Apart}

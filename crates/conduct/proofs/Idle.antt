@@ -1,5 +1,5 @@
 -- In a good state the idle partitions are those of the platform less A for each job that runs; and each running job is counted once.
-use Prim.Native.Nat.{ℕ, suc, _-_, _*_, _<_, _≤_}
+use Prim.Native.Nat.{ℕ, suc, _-_, _*_}
 use mathlib.Core.Path.{_≡_, refl, sym, _∙_}
 use mathlib.Core.Bool.{Bool, true, false}
 use native.Mathlib.Omega.{arith}
@@ -17,7 +17,7 @@ use Rattle.machine.specs.Jobs.{isRunning, job, running, busy, idleCount}
 use Rattle.machine.proofs.StateParts.{GoodJob, GoodState, when-running, when-not-running, busy-lt}
 use Rattle.lives.specs.Life.{runs}
 use Rattle.conduct.specs.Lives.{life}
-use Rattle.conduct.proofs.Lives.{one, shows}
+use Rattle.conduct.proofs.Lives.{shows}
 
 -- a good job holds A partitions if it runs, and else none
 held-size : {p : ℕ} {τ : Task} {j : Job} → GoodJob p τ j → size mostPartitions (j .held) ≡ A τ * runs (life j)

@@ -5,3 +5,6 @@ pub mod Idle
 pub mod Ready
 pub mod Begin
 pub mod Starting
+pub mod Lemma1
+pub mod Moves
+pub mod Laws

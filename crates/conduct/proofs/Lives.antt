@@ -1,22 +1,27 @@
 -- A job and its life: what is asked of the one is asked of the other, and steps 1, 2 and 4 do the same to both.
-use Prim.Native.Nat.{ℕ, suc, _+_, min}
+use Prim.Native.Nat.{ℕ, _+_, min}
 use mathlib.Core.Path.{_≡_, refl, sym}
 use mathlib.Core.Bool.{Bool, true, false, cond, true≢false}
 use native.Mathlib.Numerals.{add-one}
+use native.Mathlib.Omega.{arith}
 use Rattle.table.specs.declared.Task.{Task}
 use Rattle.table.specs.Tasks.{T}
 use Rattle.machine.specs.declared.Stage.{Stage}
 use Rattle.machine.specs.declared.Stage.the-variants.{Idle, Waiting, Running}
 use Rattle.machine.specs.declared.Job.{Job}
 use Rattle.machine.specs.Jobs.{isIdle, isWaiting, isRunning}
-use Rattle.machine.specs.Steps.{older, ended, begun}
+use Rattle.machine.specs.Steps.{older, begun}
 use Rattle.machine.proofs.Jobs.{finishedJob, readiedJob}
-use Rattle.lives.specs.Life.{Life, idle, waiting, running, age, ran, idles, waits, runs, up, rise, finish, release, start}
+use Rattle.lives.specs.Life.{age, ran, idles, waits, runs, rise, finish, release, start}
 use Rattle.conduct.specs.Lives.{lifeIn, life}
 
 -- 1 or 0
 abbrev pub one : Bool → ℕ
 one b = cond b 1 0
+
+pub one-true : (b : Bool) → one b ≡ 1 → b ≡ true
+one-true true e = refl
+one-true false e = absurd (omega arith)
 
 pub record Shown (s : Stage) (a r : ℕ) : Type 0 where
   pub age : age (lifeIn s a r) ≡ a

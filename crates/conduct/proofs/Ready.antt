@@ -1,6 +1,6 @@
 -- Steps 1, 2 and 4 of an accepted tick leave a good state.
-use Prim.Native.Nat.{ℕ, suc, _+_, _-_, _<_, _≤_, min, zero-le}
-use mathlib.Core.Path.{_≡_, refl, _∙_, ap}
+use Prim.Native.Nat.{ℕ, suc, _<_, _≤_, zero-le}
+use mathlib.Core.Path.{_≡_, refl, _∙_}
 use mathlib.Core.Bool.{Bool, true, false, cond}
 use mathlib.Core.Logic.{_≢_}
 use native.Mathlib.Omega.{arith}
@@ -9,7 +9,7 @@ use Rattle.maths.proofs.Sums.{sum-mono}
 use Rattle.table.specs.declared.Task.{Task}
 use Rattle.table.specs.Good.{GoodRow}
 use Rattle.table.specs.Limits.{mostTasks}
-use Rattle.table.specs.Tasks.{P, τ, T, C}
+use Rattle.table.specs.Tasks.{P, τ, C}
 use Rattle.sets.specs.Sets.{bit, Within}
 use Rattle.sets.specs.Families.{Apart}
 use Rattle.sets.specs.TaskSets.{hasTask}
@@ -22,9 +22,9 @@ use Rattle.machine.specs.declared.Machine.{Machine}
 use Rattle.machine.specs.Jobs.{isIdle, isRunning, noJob, job, runs, running}
 use Rattle.machine.specs.Steps.{forTasks, older, awaiting}
 use Rattle.machine.specs.Tick.{readied}
-use Rattle.machine.proofs.Jobs.{for-past, finishedJob, readiedJob, readied-pass, passed-job, finished-job, readied-job, readied-table}
+use Rattle.machine.proofs.Jobs.{for-past, finishedJob, readiedJob, readied-pass, readied-job, readied-table}
 use Rattle.machine.proofs.StateParts.{GoodJob, GoodState, when-idle}
-use Rattle.conduct.proofs.Accepted.{Accepted}
+use Rattle.conduct.proofs.Accepted.{Accepted, taken}
 use Rattle.conduct.proofs.Lives.{one}
 
 abbrev jobOf : Stage → ℕ → ℕ → ℕ → Job
@@ -74,17 +74,11 @@ module _ (m : Machine) (R F : ℕ) (g : GoodState m) (a : Accepted m R F) where
     is : job (readied m R F) (suc i) ≡ readiedJob (τ (m .table) (suc i)) (hasTask R (suc i)) (hasTask F (suc i)) (job m (suc i))
     is = readied-job m (suc i) (omega arith) l few R F
 
-    -- 11 is not given, and 13 is not
-    unrun : runs m (suc i) ≡ true → hasTask F (suc i) ≡ false → older (τ (m .table) (suc i)) (job m (suc i)) .ran ≢ C (τ (m .table) (suc i))
-    unrun p q = rw (passed-job m (suc i) (omega arith) l few) at (a .before .over (suc i) (omega arith) few p q)
-
-    free : hasTask R (suc i) ≡ true → isIdle (finishedJob (τ (m .table) (suc i)) (hasTask F (suc i)) (job m (suc i)) .stage) ≡ true
-    free p = rw (finished-job m (suc i) (omega arith) l few F) at (a .free (suc i) (omega arith) few p)
-
     each-good : GoodJob (P (m .table)) (τ (m .table) (suc i)) (job (readied m R F) (suc i))
     each-good =
         let row = g .table .row i l in
-        rw is (released-good row (hasTask R (suc i)) _ (finished-good row (hasTask F (suc i)) (job m (suc i)) (g .each i l) unrun) free)
+        let t = taken m R F (g .table .few) a (suc i) (omega arith) l in
+        rw is (released-good row (hasTask R (suc i)) _ (finished-good row (hasTask F (suc i)) (job m (suc i)) (g .each i l) (t .notOver)) (t .free))
 
     within : Within (job (readied m R F) (suc i) .held) (job m (suc i) .held)
     within = rw is (held-less (τ (m .table) (suc i)) (hasTask R (suc i)) (hasTask F (suc i)) (job m (suc i)))

@@ -2,20 +2,15 @@
 use Prim.Native.Nat.{ℕ, zero, suc, _+_, _<_, _≤_}
 use mathlib.Core.Path.{_≡_, refl, sym, _∙_, ap}
 use mathlib.Core.Bool.{Bool, true, false, cond, true≢false}
-use mathlib.Core.Logic.{_≢_}
 use native.Mathlib.Decide.{decLt, ℕ-discrete}
 use native.Mathlib.Omega.{arith}
-use Rattle.maths.specs.Tasks.{lowest}
-use Rattle.maths.proofs.Tasks.{lowest-none, lowest-holds, lowest-first}
-use Rattle.table.specs.declared.Table.{Table}
+use Rattle.maths.proofs.Tasks.{lowest-holds, lowest-first}
 use Rattle.table.specs.Limits.{mostTasks}
 use Rattle.table.specs.Tasks.{τ, A}
 use Rattle.sets.specs.Choice.{choice}
-use Rattle.machine.specs.declared.Stage.{Stage}
-use Rattle.machine.specs.declared.Stage.the-variants.{Idle, Waiting, Running}
 use Rattle.machine.specs.declared.Job.{Job}
 use Rattle.machine.specs.declared.Machine.{Machine}
-use Rattle.machine.specs.Jobs.{isWaiting, isRunning, job, waits, runs, idlePartitions}
+use Rattle.machine.specs.Jobs.{isWaiting, job, waits, runs, idlePartitions}
 use Rattle.machine.specs.Steps.{firstWaiting, fits, begun, start, startFirst, startWaiting}
 use Rattle.machine.proofs.Jobs.{start-other}
 use Rattle.machine.proofs.StateParts.{GoodState}

@@ -23,7 +23,7 @@ use Rattle.machine.proofs.Jobs.{readiedJob, readied-table, readied-job}
 use Rattle.machine.proofs.StateParts.{GoodState}
 use Rattle.machine.proofs.StateTest.{state-good, state-test}
 use Rattle.lives.specs.Life as L
-use Rattle.lives.specs.Life.{Next}
+use Rattle.lives.specs.Life.{Allowed, Next}
 use Rattle.lives.specs.Test.{Full}
 use Rattle.conduct.specs.Lives.{row, life}
 use Rattle.conduct.proofs.Accepted.{accepted-is, taken}
@@ -31,7 +31,7 @@ use Rattle.conduct.proofs.Lives.{one-true, shows}
 use Rattle.conduct.proofs.Lemma1.{full-of}
 use Rattle.conduct.proofs.Ready.{readied-good}
 use Rattle.conduct.proofs.Starting.{Began, Ended, step-5}
-use Rattle.conduct.proofs.Moves.{starts, next-of, lands}
+use Rattle.conduct.proofs.Moves.{starts, allowed, lands}
 
 -- the state that the tick leaves
 abbrev pub after : Machine → ℕ → ℕ → Machine
@@ -90,15 +90,15 @@ module _ (m : Machine) (R F : ℕ) (len : length (m .table .rows) ≡ mostTasks)
         rw (tick-started m R F ok, tick-moved m R F ok)
         (tasks-has (λ k. waits (readied m R F) k && runs (moved m R F) k) (moved m R F .table .n) (suc i) (omega arith) now-n)
 
-  -- S-next
-  pub next : Each (m .table .n) (λ k. Next (row (τ (m .table) k)) (T (τ (m .table) k)) (life (job m k)) (life (job (after m R F) k)))
-  next =
+  -- what the report and the answer say of a task is allowed, and it is what the tick does to the task's life
+  pub allows : Each (m .table .n)
+      (λ k. Allowed (row (τ (m .table) k)) (L.rise (T (τ (m .table) k)) (life (job m k))) (hasTask F k) (hasTask R k) (hasTask (tick m R F .answer .started) k))
+  allows =
       each (m .table .n) _
-      (λ i l. next-of (τ (m .table) (suc i)) (hasTask R (suc i)) (hasTask F (suc i)) (job m (suc i)) (job (after m R F) (suc i))
-      (taken m R F (good-before .table .few) (accepted-is m R F ok) (suc i) (omega arith) l)
-      (begun-of i l))
+      (λ i l. rw (started-is i l, is-readied i l)
+      (allowed (τ (m .table) (suc i)) (hasTask R (suc i)) (hasTask F (suc i)) (job m (suc i)) (job (after m R F) (suc i))
+      (taken m R F (good-before .table .few) (accepted-is m R F ok) (suc i) (omega arith) l)))
 
-  -- the same, with what the report and the answer say of the task
   pub moves : Each (m .table .n)
       (λ k. L.start (hasTask (tick m R F .answer .started) k)
       (L.release (hasTask R k) (L.finish (hasTask F k) (L.rise (T (τ (m .table) k)) (life (job m k)))))
@@ -107,6 +107,17 @@ module _ (m : Machine) (R F : ℕ) (len : length (m .table .rows) ≡ mostTasks)
       each (m .table .n) _
       (λ i l. rw (started-is i l, is-readied i l)
       (lands (τ (m .table) (suc i)) (hasTask R (suc i)) (hasTask F (suc i)) (job m (suc i)) (job (after m R F) (suc i)) (begun-of i l)))
+
+  -- S-next
+  pub next : Each (m .table .n) (λ k. Next (row (τ (m .table) k)) (T (τ (m .table) k)) (life (job m k)) (life (job (after m R F) k)))
+  next k l h =
+      record {
+        finished = hasTask F k;
+        released = hasTask R k;
+        started = hasTask (tick m R F .answer .started) k;
+        allowed = allows k l h;
+        lands = moves k l h;
+      }
 
   -- S-full
   pub full : Each (m .table .n)

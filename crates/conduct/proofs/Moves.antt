@@ -10,7 +10,7 @@ use Rattle.machine.specs.declared.Job.{Job}
 use Rattle.machine.specs.Jobs.{isWaiting, isRunning}
 use Rattle.machine.specs.Steps.{older}
 use Rattle.machine.proofs.Jobs.{finishedJob, readiedJob}
-use Rattle.lives.specs.Life.{age, ran, idles, waits, runs, rise, finish, release, start, Allowed, Next}
+use Rattle.lives.specs.Life.{age, ran, idles, waits, runs, rise, finish, release, start, Allowed}
 use Rattle.conduct.specs.Lives.{row, life}
 use Rattle.conduct.proofs.Accepted.{Taken}
 use Rattle.conduct.proofs.Lives.{one-true, shows, life-older, life-finished, life-readied, life-begun}
@@ -42,7 +42,7 @@ starts-waiting a b = by (isWaiting (a .stage))
     by false e = e
 
 module _ (τ : Task) (r f : Bool) (j : Job) (b : Job) where
-  allowed : Taken τ r f j → Allowed (row τ) (rise (T τ) (life j)) f r (starts (readiedJob τ r f j) b)
+  pub allowed : Taken τ r f j → Allowed (row τ) (rise (T τ) (life j)) f r (starts (readiedJob τ r f j) b)
   allowed t =
       record {
         wasRunning = λ e. rw (← life-older τ j) (shows (older τ j) .runs ∙ rw (t .wasRunning e));
@@ -57,6 +57,3 @@ module _ (τ : Task) (r f : Bool) (j : Job) (b : Job) where
 
   pub lands : Began (readiedJob τ r f j) b → start (starts (readiedJob τ r f j) b) (release r (finish f (rise (T τ) (life j)))) ≡ life b
   lands s = rw (← life-readied τ r f j) (sym (life-started s))
-
-  pub next-of : Taken τ r f j → Began (readiedJob τ r f j) b → Next (row τ) (T τ) (life j) (life b)
-  next-of t s = record { finished = f; released = r; started = starts (readiedJob τ r f j) b; allowed = allowed t; lands = lands s }

@@ -1,3 +1,4 @@
 pub mod StateParts
 pub mod StateTest
 pub mod StateLoops
+pub mod StateFresh

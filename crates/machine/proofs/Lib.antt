@@ -2,3 +2,4 @@ pub mod Jobs
 pub mod StateParts
 pub mod StateTest
 pub mod StateLoops
+pub mod StateFresh

@@ -1,0 +1,4 @@
+-- Demand 3, proved.
+pub mod Following
+pub mod Bits
+pub mod Test

@@ -2,3 +2,5 @@
 pub mod Following
 pub mod Bits
 pub mod Test
+pub mod States
+pub mod Course

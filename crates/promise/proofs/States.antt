@@ -15,6 +15,7 @@ use Rattle.sets.specs.TaskSets.{hasTask}
 use Rattle.machine.specs.declared.Machine.{Machine}
 use Rattle.machine.specs.Jobs.{job}
 use Rattle.machine.specs.Fresh.{trimmed, fresh}
+use Rattle.machine.proofs.StateFresh.{fresh-state}
 use Rattle.machine.proofs.StateParts.{GoodState}
 use Rattle.lives.specs.Life.{Life, waits, runs, rise, Allowed, Next}
 use Rattle.lives.specs.Test.{Full}
@@ -22,6 +23,7 @@ use Rattle.conduct.specs.Lives.{row, life}
 use Rattle.conduct.proofs.Laws.{same-table, good-after, allows, moves, next, full}
 use Rattle.promise.specs.Sequences.{Report, told, Step, Sequence, sequence, count, tickAt, state}
 use Rattle.promise.specs.Promise.{Admitted}
+use Rattle.promise.proofs.Test.{not-refused}
 use Rattle.promise.proofs.Following.{Follows, following}
 use Rattle.promise.proofs.Bits.{led}
 
@@ -45,14 +47,14 @@ module _ (t : Table) (m : Machine) (st : Step) (same : m .table ≡ trimmed t) (
   good : GoodState (st .after)
   good = rw (f .after) (good-after m R F len (f .accepted))
 
-  allowed : Each (t .n) (λ k. Allowed (row (τ u k)) (rise (T (τ u k)) (life (job m k))) (hasTask F k) (hasTask R k) (hasTask (st .answer .started) k))
+  pub allowed : Each (t .n) (λ k. Allowed (row (τ u k)) (rise (T (τ u k)) (life (job m k))) (hasTask F k) (hasTask R k) (hasTask (st .answer .started) k))
   allowed =
       rw (f .answer)
       (subst (λ (v : Table). Each (v .n) (λ k.
       Allowed (row (τ v k)) (rise (T (τ v k)) (life (job m k))) (hasTask F k) (hasTask R k) (hasTask (told m (st .report) .answer .started) k))) same
       (allows m R F len (f .accepted)))
 
-  leads : Each (t .n) (λ k. led (T (τ u k)) (life (job m k)) (hasTask F k) (hasTask R k) (hasTask (st .answer .started) k) ≡ life (job (st .after) k))
+  pub leads : Each (t .n) (λ k. led (T (τ u k)) (life (job m k)) (hasTask F k) (hasTask R k) (hasTask (st .answer .started) k) ≡ life (job (st .after) k))
   leads =
       rw (f .answer, f .after)
       (subst (λ (v : Table). Each (v .n) (λ k.
@@ -60,7 +62,7 @@ module _ (t : Table) (m : Machine) (st : Step) (same : m .table ≡ trimmed t) (
       ≡ life (job (told m (st .report) .machine) k))) same
       (moves m R F len (f .accepted)))
 
-  full-after : Each (t .n) (λ k. waits (life (job (st .after) k)) ≡ 1
+  pub full-after : Each (t .n) (λ k. waits (life (job (st .after) k)) ≡ 1
       → Full (t .n) (M t) (B u k) (λ i. A (τ u i)) (λ i. runs (life (job (st .after) i))))
   full-after =
       rw (f .after)
@@ -70,18 +72,19 @@ module _ (t : Table) (m : Machine) (st : Step) (same : m .table ≡ trimmed t) (
 
 -- The sequence of an admitted table.
 module _ (t : Table) (a : Admitted t) (xs : List Report) where
-  abbrev s : Sequence
-  s = sequence t xs
-
-  follows : (i : ℕ) → i < count s → Follows (state s i) (tickAt s i)
+  pub follows : (i : ℕ) → i < count (sequence t xs) → Follows (state (sequence t xs) i) (tickAt (sequence t xs) i)
   follows = following (fresh t) xs
 
-  record Sound (m : Machine) : Type 0 where
-    same : m .table ≡ trimmed t
-    good : GoodState m
+  -- a good state with the table of t
+  pub record Sound (m : Machine) : Type 0 where
+    pub same : m .table ≡ trimmed t
+    pub good : GoodState m
 
-  sound : (i : ℕ) → i ≤ count s → Sound (state s i)
-  sound zero l = ?fresh
+  pub sound : (i : ℕ) → i ≤ count (sequence t xs) → Sound (state (sequence t xs) i)
+  unfolding fresh
+  sound zero l = record { same = refl; good = fresh-state t (not-refused t a) (a .whole) }
   sound (suc i) l =
-      let b = sound i (omega arith) in
-      record { same = table-after t (state s i) (tickAt s i) (b .same) (follows i l); good = good t (state s i) (tickAt s i) (b .same) (follows i l) }
+      let before = sound i (omega arith) .same in
+      let m = state (sequence t xs) i in
+      let st = tickAt (sequence t xs) i in
+      record { same = table-after t m st before (follows i l); good = good t m st before (follows i l) }

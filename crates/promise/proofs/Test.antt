@@ -19,7 +19,8 @@ use Rattle.table.proofs.Good.{good-of}
 use Rattle.admission.specs.Test.{S, Amax, B, interference, weight, load, limit, passes}
 use Rattle.admission.specs.Answers.{accepted, quickAnswer}
 use Rattle.admission.proofs.Laws.{passes-is}
-use Rattle.machine.specs.Fresh.{trimmed}
+use Rattle.machine.specs.Fresh.{trimmed, fresh}
+use Rattle.machine.proofs.StateFresh.{fresh-task}
 use Rattle.lives.specs.Life.{Sound}
 use Rattle.lives.specs.Test as L
 use Rattle.conduct.specs.Lives.{row}
@@ -37,9 +38,8 @@ verdict-parts t v = by (accepted t) refl v
 
 module _ (t : Table) (few : t .n ≤ mostTasks) where
   pub same-task : Each (t .n) (λ k. τ (trimmed t) k ≡ τ t k)
-  same-task =
-      each (t .n) (λ k. τ (trimmed t) k ≡ τ t k)
-      (λ i l. getD-tabulate (λ k. cond (leb k (t .n)) (τ t k) noTask) mostTasks i noTask (omega arith) ∙ rw (le-leb (suc i) (t .n) l))
+  unfolding fresh
+  same-task = each (t .n) (λ k. τ (trimmed t) k ≡ τ t k) (λ i l. fresh-task t i (omega arith) l)
 
   same-Amax : (k : ℕ) → k ≤ t .n → Amax (trimmed t) k ≡ Amax t k
   unfolding Amax
@@ -59,8 +59,11 @@ module _ (t : Table) (few : t .n ≤ mostTasks) where
 
 -- the table that a fresh machine keeps is admitted as the theory has it
 module _ (t : Table) (a : Admitted t) where
+  pub not-refused : refusal t .number ≡ 0
+  not-refused = verdict-parts t (a .verdict) .0
+
   pub good-table : Good t
-  good-table = good-of t (a .whole) (verdict-parts t (a .verdict) .0)
+  good-table = good-of t (a .whole) not-refused
 
   few : t .n ≤ mostTasks
   few = good-table .few

@@ -4,3 +4,4 @@ pub mod Bits
 pub mod Test
 pub mod States
 pub mod Course
+pub mod Waits

@@ -5,3 +5,4 @@ pub mod Test
 pub mod States
 pub mod Course
 pub mod Waits
+pub mod Ends

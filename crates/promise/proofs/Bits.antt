@@ -1,9 +1,9 @@
 -- What the report and the answer of an accepted tick say of one task: x is its life before the tick, and f, r and s are whether the tick finishes, releases and starts it.
 use Prim.Native.Nat.{ℕ}
-use mathlib.Core.Path.{_≡_, refl, sym}
-use mathlib.Core.Bool.{Bool, true, false, true≢false}
+use mathlib.Core.Path.{_≡_, refl}
+use mathlib.Core.Bool.{Bool, true, false}
 use native.Mathlib.Omega.{arith}
-use Rattle.lives.specs.Life.{Row, Life, idle, waiting, running, age, idles, waits, runs, rise, finish, release, start, Allowed}
+use Rattle.lives.specs.Life.{Row, Life, idle, waiting, running, age, idles, waits, rise, finish, release, start, Allowed}
 
 -- the life after the tick
 abbrev pub led : ℕ → Life → Bool → Bool → Bool → Life

@@ -1,6 +1,6 @@
 -- A sequence as a course of the theory of lives, and what the theorem says of its lives.
-use Prim.Native.Nat.{ℕ, zero, suc, _<_, _≤_}
-use mathlib.Core.Path.{_≡_, refl, sym, _∙_, ap}
+use Prim.Native.Nat.{ℕ, suc, _<_, _≤_}
+use mathlib.Core.Path.{_≡_, sym, _∙_, ap}
 use mathlib.Core.List.{List}
 use native.Mathlib.Nat.{le-refl}
 use native.Mathlib.Omega.{arith}
@@ -10,9 +10,8 @@ use Rattle.table.specs.declared.Table.{Table}
 use Rattle.table.specs.Limits.{mostTasks}
 use Rattle.table.specs.Tasks.{M, τ, T, A}
 use Rattle.admission.specs.Test.{B}
-use Rattle.machine.specs.declared.Job.{Job}
 use Rattle.machine.specs.Jobs.{job}
-use Rattle.machine.specs.Fresh.{trimmed, freshJob, fresh}
+use Rattle.machine.specs.Fresh.{trimmed}
 use Rattle.machine.proofs.StateFresh.{fresh-job}
 use Rattle.lives.specs.Life.{Row, Life, idle, waits, runs, rise, Allowed, Next, Good, OnTime}
 use Rattle.lives.specs.Style.{Style, Course}

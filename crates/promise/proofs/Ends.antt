@@ -3,17 +3,17 @@ use Prim.Native.Nat.{ℕ, zero, suc, _+_, _-_, _<_, _≤_}
 use mathlib.Core.Path.{_≡_, refl, sym, _∙_, ap, subst}
 use mathlib.Core.Bool.{Bool, true, false}
 use mathlib.Core.List.{List}
-use native.Mathlib.Decide.{decLt, ℕ-discrete}
+use native.Mathlib.Decide.{decLt}
 use native.Mathlib.Omega.{arith}
 use Rattle.table.specs.declared.Table.{Table}
 use Rattle.table.specs.Tasks.{τ, D}
-use Rattle.lives.specs.Life.{Row, Life, age, idles, Allowed, rise}
-use Rattle.lives.specs.Style.{Unfinished, Course}
+use Rattle.lives.specs.Life.{Row, Life, age, idles}
+use Rattle.lives.specs.Style.{Unfinished}
 use Rattle.lives.proofs.Ages.{ends-below-deadline}
 use Rattle.promise.specs.Sequences.{Report, Sequence, sequence, count, releases, finishes, starts}
 use Rattle.promise.specs.Promise.{Admitted, Finished}
 use Rattle.promise.proofs.Bits.{comes-age, was, finishes-there}
-use Rattle.promise.proofs.Course.{rows, tops, lives, same-row, says, does, style, course}
+use Rattle.promise.proofs.Course.{rows, tops, lives, same-row, says, does, course}
 
 module _ (t : Table) (a : Admitted t) (xs : List Report) (k : ℕ) (p : 1 ≤ k) (q : k ≤ t .n) where
   abbrev s : Sequence

@@ -1,5 +1,5 @@
 -- What a sequence is made of: each of its ticks is accepted in the state before it, answers what the machine answers there, and leaves the state after it.
-use Prim.Native.Nat.{ℕ, zero, suc, _<_, _≤_}
+use Prim.Native.Nat.{ℕ, zero, suc, _<_}
 use mathlib.Core.Path.{_≡_, refl, sym, _∙_, ap, subst}
 use mathlib.Core.Bool.{Bool, true, false, cond}
 use mathlib.Core.List.{List, [], _∷_}
@@ -10,7 +10,7 @@ use Rattle.table.specs.declared.Refusal.{Refusal}
 use Rattle.machine.specs.declared.Machine.{Machine}
 use Rattle.machine.specs.Tick.{accepted}
 use Rattle.conduct.proofs.Laws.{tick-refusal, tick-refused}
-use Rattle.promise.specs.Sequences.{Report, told, accepts, Step, step, steps, Sequence, count, nth, tickAt, state}
+use Rattle.promise.specs.Sequences.{Report, told, accepts, Step, step, steps, nth, state}
 
 -- an answer accepts exactly where no refusal is given
 accepts-is : (m : Machine) (x : Report) → accepts (told m x .answer) ≡ accepted m (x .released) (x .finished)

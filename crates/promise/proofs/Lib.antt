@@ -6,3 +6,5 @@ pub mod States
 pub mod Course
 pub mod Waits
 pub mod Ends
+pub mod Times
+pub mod Demand3

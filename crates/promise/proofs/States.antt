@@ -1,7 +1,6 @@
 -- The states of a sequence: all good, with one table; and the laws of a tick for the ticks of the sequence.
 use Prim.Native.Nat.{ℕ, zero, suc, _<_, _≤_}
-use mathlib.Core.Path.{_≡_, refl, sym, _∙_, ap, subst}
-use mathlib.Core.Bool.{true}
+use mathlib.Core.Path.{_≡_, refl, _∙_, subst}
 use mathlib.Core.List.{List}
 use native.Mathlib.Omega.{arith}
 use lib.ListN.{length}
@@ -17,11 +16,11 @@ use Rattle.machine.specs.Jobs.{job}
 use Rattle.machine.specs.Fresh.{trimmed, fresh}
 use Rattle.machine.proofs.StateFresh.{fresh-state}
 use Rattle.machine.proofs.StateParts.{GoodState}
-use Rattle.lives.specs.Life.{Life, waits, runs, rise, Allowed, Next}
+use Rattle.lives.specs.Life.{waits, runs, rise, Allowed}
 use Rattle.lives.specs.Test.{Full}
 use Rattle.conduct.specs.Lives.{row, life}
-use Rattle.conduct.proofs.Laws.{same-table, good-after, allows, moves, next, full}
-use Rattle.promise.specs.Sequences.{Report, told, Step, Sequence, sequence, count, tickAt, state}
+use Rattle.conduct.proofs.Laws.{same-table, good-after, allows, moves, full}
+use Rattle.promise.specs.Sequences.{Report, told, Step, sequence, count, tickAt, state}
 use Rattle.promise.specs.Promise.{Admitted}
 use Rattle.promise.proofs.Test.{not-refused}
 use Rattle.promise.proofs.Following.{Follows, following}

@@ -1,22 +1,19 @@
 -- The verdict of the quick answer, as the theory of lives has it, of the table that a fresh machine keeps: the same tasks 1 to n, and zero past them.
-use Prim.Native.Nat.{ℕ, zero, suc, _+_, _*_, _<_, _≤_}
+use Prim.Native.Nat.{ℕ, zero, suc, _*_, _<_, _≤_}
 use mathlib.Core.Path.{_≡_, refl, sym, _∙_}
-use mathlib.Core.Bool.{Bool, true, false, cond, true≢false}
+use mathlib.Core.Bool.{Bool, true, false, true≢false}
 use native.Mathlib.Omega.{arith}
-use borrow.Author.Tests.{le-leb, eqb-true, ltb-true}
-use lib.Dec.{leb}
-use lib.ListN.{length}
+use borrow.Author.Tests.{eqb-true, ltb-true}
 use Rattle.maths.specs.Tasks.{Each}
 use Rattle.maths.proofs.Sums.{Σ-ext}
-use Rattle.maths.proofs.Tasks.{each, every-holds, getD-tabulate}
-use Rattle.table.specs.declared.Task.{Task}
+use Rattle.maths.proofs.Tasks.{each, every-holds}
 use Rattle.table.specs.declared.Table.{Table}
 use Rattle.table.specs.Limits.{mostTasks}
 use Rattle.table.specs.Good.{Good}
 use Rattle.table.specs.Refused.{refusal}
-use Rattle.table.specs.Tasks.{M, noTask, τ, A}
+use Rattle.table.specs.Tasks.{M, τ, A}
 use Rattle.table.proofs.Good.{good-of}
-use Rattle.admission.specs.Test.{S, Amax, B, interference, weight, load, limit, passes}
+use Rattle.admission.specs.Test.{Amax, B, interference, weight, load, limit, passes}
 use Rattle.admission.specs.Answers.{accepted, quickAnswer}
 use Rattle.admission.proofs.Laws.{passes-is}
 use Rattle.machine.specs.Fresh.{trimmed, fresh}

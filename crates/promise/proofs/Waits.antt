@@ -1,16 +1,15 @@
 -- Point 1: a job waits, and is started after, fewer ticks than its slack.
 use Prim.Native.Nat.{ℕ, zero, suc, _+_, _-_, _<_, _≤_}
 use mathlib.Core.Path.{_≡_, refl, sym, _∙_, ap, subst}
-use mathlib.Core.Bool.{Bool, true, false}
+use mathlib.Core.Bool.{true, false}
 use mathlib.Core.List.{List}
 use native.Mathlib.Decide.{ℕ-discrete}
 use native.Mathlib.Omega.{arith}
 use Rattle.table.specs.declared.Table.{Table}
 use Rattle.table.specs.Tasks.{τ, D, C}
-use Rattle.lives.specs.Life.{Life, slack, age, ran, idles, waits, runs, Allowed, rise}
+use Rattle.lives.specs.Life.{Life, slack, age, ran, idles, waits, runs}
 use Rattle.lives.specs.Style.{Unfinished}
 use Rattle.lives.proofs.Ages.{waits-below-slack, runs-below-slack}
-use Rattle.conduct.specs.Lives.{row}
 use Rattle.promise.specs.Sequences.{Report, Sequence, sequence, count, releases, finishes, starts}
 use Rattle.promise.specs.Promise.{Admitted}
 use Rattle.promise.proofs.Bits.{led, comes-age, waits-on}

@@ -1,8 +1,8 @@
 -- The promise is not empty: P1 of document 01 is admitted and its tasks contend, and time can always go on.
 use mathlib.Core.Path.{_≡_}
-use mathlib.Core.List.{List, [], _∷_, _++_}
+use mathlib.Core.List.{[], _∷_}
 use Prim.Native.Nat.{ℕ, _≤_}
-use lib.ListN.{length, replicate}
+use lib.ListN.{replicate}
 use Rattle.table.specs.declared.Task.{Task}
 use Rattle.table.specs.declared.Table.{Table}
 use Rattle.table.specs.Tasks.{noTask}

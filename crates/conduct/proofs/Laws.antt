@@ -1,8 +1,8 @@
 -- The laws of an accepted tick: it keeps a good state good (S-good), moves each life on (S-next), leaves a state that is full for whom it leaves waiting (S-full,
 -- lemma 1 of the report), and starts none behind them (S-start). All that the crates above know of a tick.
 use Prim.Native.Nat.{ℕ, suc, _<_, _≤_}
-use mathlib.Core.Path.{_≡_, sym, _∙_}
-use mathlib.Core.Bool.{true, _&&_}
+use mathlib.Core.Path.{_≡_, refl, sym, _∙_}
+use mathlib.Core.Bool.{Bool, true, false, _&&_}
 use native.Mathlib.Omega.{arith}
 use lib.ListN.{length}
 use Rattle.maths.specs.Tasks.{Each}
@@ -18,7 +18,7 @@ use Rattle.machine.specs.declared.Machine.{Machine}
 use Rattle.machine.specs.Jobs.{isWaiting, job, waits, runs}
 use Rattle.machine.specs.Conditions.{goodState}
 use Rattle.machine.specs.Steps.{finish, passed, lateSet}
-use Rattle.machine.specs.Tick.{readied, moved, startedSet, accepted, tick}
+use Rattle.machine.specs.Tick.{readied, moved, startedSet, tickRefusal, accepted, tick}
 use Rattle.machine.proofs.Jobs.{readiedJob, readied-table, readied-job}
 use Rattle.machine.proofs.StateParts.{GoodState}
 use Rattle.machine.proofs.StateTest.{state-good, state-test}
@@ -36,6 +36,19 @@ use Rattle.conduct.proofs.Moves.{starts, allowed, lands}
 -- the state that the tick leaves
 abbrev pub after : Machine → ℕ → ℕ → Machine
 after m R F = tick m R F .machine
+
+-- a tick answers its refusal, and where it refuses it leaves the state as it was
+pub tick-refusal : (m : Machine) (R F : ℕ) → tick m R F .answer .refused ≡ tickRefusal m R F
+unfolding tick
+tick-refusal m R F = by (accepted m R F) refl
+  where
+    by : (b : Bool) → accepted m R F ≡ b → tick m R F .answer .refused ≡ tickRefusal m R F
+    by true e = rw e
+    by false e = rw e
+
+pub tick-refused : (m : Machine) (R F : ℕ) → accepted m R F ≡ false → after m R F ≡ m
+unfolding tick
+tick-refused m R F no-tick = rw (after, no-tick)
 
 -- the parts of what an accepted tick returns
 module _ (m : Machine) (R F : ℕ) (ok : accepted m R F ≡ true) where

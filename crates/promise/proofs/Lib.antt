@@ -8,3 +8,4 @@ pub mod Waits
 pub mod Ends
 pub mod Times
 pub mod Demand3
+pub mod Time

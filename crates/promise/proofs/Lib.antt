@@ -9,3 +9,4 @@ pub mod Ends
 pub mod Times
 pub mod Demand3
 pub mod Time
+pub mod Calls

@@ -1,21 +1,17 @@
 -- The corollary of demand 3 about the values that the functions return.
-use Prim.Native.Nat.{ℕ}
-use mathlib.Core.Path.{_≡_, refl, sym, _∙_, ap, subst}
-use mathlib.Core.Bool.{true}
-use mathlib.Core.List.{List, [], _∷_}
+use mathlib.Core.Path.{_≡_, refl, sym, _∙_, ap}
+use mathlib.Core.List.{List}
 use borrow.Author.Tests.{eq-eqb}
-use lib.ListN.{length}
 use Rattle.table.specs.declared.Table.{Table}
-use Rattle.table.specs.Limits.{mostTasks}
 use Rattle.table.specs.Refused.{refusal}
 use Rattle.admission.specs.declared.QuickAnswer.{QuickAnswer}
 use Rattle.machine.specs.declared.Machine.{Machine}
 use Rattle.machine.specs.declared.SetUp.{SetUp}
 use Rattle.machine.specs.declared.Ticked.{Ticked}
 use Rattle.machine.specs.Fresh.{fresh, setUp}
-use Rattle.promise.specs.Sequences.{Report, Step, steps, Sequence, sequence}
-use Rattle.promise.specs.Promise.{Admitted, Kept}
-use Rattle.promise.specs.Calls.{Ticks, none, call, returned, Calls, Demand3OfCalls}
+use Rattle.promise.specs.Sequences.{Report, steps}
+use Rattle.promise.specs.Promise.{Admitted}
+use Rattle.promise.specs.Calls.{Ticks, none, call, returned, Demand3OfCalls}
 use Rattle.promise.proofs.Test.{not-refused}
 use Rattle.promise.proofs.Demand3.{demand-3}
 

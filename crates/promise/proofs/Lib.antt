@@ -10,3 +10,4 @@ pub mod Times
 pub mod Demand3
 pub mod Time
 pub mod Calls
+pub mod Contracts

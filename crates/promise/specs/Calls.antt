@@ -14,7 +14,7 @@ use Rattle.machine.specs.declared.SetUp.{SetUp}
 use Rattle.machine.specs.declared.Ticked.{Ticked}
 use Rattle.machine.specs.Fresh.{setUp}
 use Rattle.machine.specs.Tick.{tick}
-use Rattle.promise.specs.Sequences.{Report, accepts, Step, step, Sequence}
+use Rattle.promise.specs.Sequences.{Report, accepts, Step, step}
 use Rattle.promise.specs.Promise.{Kept}
 
 -- `rs` are returned by ticks on the reports, from machine m on, each called on the machine that the one before it returned

@@ -7,7 +7,6 @@ use native.Mathlib.Decide.{decLt}
 use native.Mathlib.Omega.{arith}
 use borrow.Author.Tests.{ltb-false, leb-false}
 use lib.Dec.{ltb, leb}
-use Rattle.maths.proofs.Tasks.{lowest-none, lowest-first}
 use Rattle.table.specs.Tasks.{M, τ, A}
 use Rattle.admission.proofs.Laws.{Amax-over}
 use Rattle.machine.specs.declared.Machine.{Machine}
@@ -17,13 +16,13 @@ use Rattle.machine.proofs.StateParts.{GoodState}
 use Rattle.lives.specs.Test.{busyCores, busyCache}
 use Rattle.conduct.specs.Conduct.{FullFor}
 use Rattle.conduct.proofs.Idle.{idle-partitions, running-jobs}
-use Rattle.conduct.proofs.Starting.{Stopped, nobody, blocked}
+use Rattle.conduct.proofs.Starting.{Stopped, nobody, blocked, first-none, first-lowest}
 
 module _ {x : Machine} (g : GoodState x) where
   first-before : (h k : ℕ) → firstWaiting x ≡ suc h → waits x (suc k) ≡ true → h ≤ k
   first-before h k e w =
       elim (decLt k h) [
-        | yes l ↦ absurd (true≢false (sym w ∙ lowest-first (waits x) (x .table .n) h e k l))
+        | yes l ↦ absurd (true≢false (sym w ∙ first-lowest x h e k l))
         | no l ↦ omega arith
       ]
 
@@ -39,5 +38,5 @@ module _ {x : Machine} (g : GoodState x) where
           busyCores (omega (arith, running-jobs x))
 
   pub full-of : Stopped x → (k : ℕ) → k < x .table .n → waits x (suc k) ≡ true → FullFor (x .table) x (suc k)
-  full-of (nobody e) k n w = absurd (true≢false (sym w ∙ lowest-none (waits x) (x .table .n) e k n))
+  full-of (nobody e) k n w = absurd (true≢false (sym w ∙ first-none x e k n))
   full-of (blocked h e f) k n w = not-fits h k (first-before h k e w) n f

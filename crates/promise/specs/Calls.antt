@@ -2,7 +2,7 @@
 -- `m.tick(released, finished)` returns `tick m released finished`. Whoever is told that the table is admitted, sets up and goes on from what each tick
 -- returns, over whatever machine was there before, sees the promise kept in the very values that were returned.
 use mathlib.Core.Path.{_≡_}
-use mathlib.Core.Bool.{true, cond}
+use mathlib.Core.Bool.{true}
 use mathlib.Core.List.{List, [], _∷_}
 use lib.ListN.{length}
 use Rattle.table.specs.declared.Table.{Table}
@@ -14,7 +14,7 @@ use Rattle.machine.specs.declared.SetUp.{SetUp}
 use Rattle.machine.specs.declared.Ticked.{Ticked}
 use Rattle.machine.specs.Fresh.{setUp}
 use Rattle.machine.specs.Tick.{tick}
-use Rattle.promise.specs.Sequences.{Report, accepts, Step, step}
+use Rattle.promise.specs.Sequences.{Report, accepts, Step, step, counted}
 use Rattle.promise.specs.Promise.{Kept}
 
 -- `rs` are returned by ticks on the reports, from machine m on, each called on the machine that the one before it returned
@@ -27,7 +27,7 @@ pub data Ticks : Machine → List Report → List Ticked → Type 0 where
 abbrev pub returned : List Report → List Ticked → List Step
 returned [] rs = []
 returned (x ∷ xs) [] = []
-returned (x ∷ xs) (r ∷ rs) = cond (accepts (r .answer)) (step x r ∷ returned xs rs) (returned xs rs)
+returned (x ∷ xs) (r ∷ rs) = counted (accepts (r .answer)) (step x r) (returned xs rs)
 
 pub record Calls (t : Table) (old : Machine) (reports : List Report) : Type 0 where
   pub verdict : QuickAnswer

@@ -78,3 +78,6 @@ module _ (X Y : Data) (ν : Sym) (D : Type 0) (fst : D → Value X) (snd : D →
 
     pub snd-fits : Fits Y (snd d)
     snd-fits = LL.owed (two one .type) (two one .laws) d (vals (two one) d) is .1 .0
+
+  pub both-fit : (one : (x y : D) → parts x ≡ parts y → x ≡ y) (d : D) → Fits X (fst d) → Fits Y (snd d) → Fits (two one) d
+  both-fit one d a b = LL.owes (two one .type) (two one .laws) d (a, (b, tt))

@@ -1,6 +1,9 @@
+pub mod Cut
 pub mod Data
 pub mod Fill
+pub mod First
 pub mod Judged
+pub mod Lends
 pub mod Moved
 pub mod Renewed
 pub mod Rows

@@ -1,4 +1,4 @@
--- The records of a table as the walks know them, and a lent row of tasks.
+-- The records of a table and of a machine as the walks know them, and a lent row of tasks.
 use mathlib.Core.List.{List}
 use mir.Syntax.{named}
 use base.Fml.{Lft, Fml}
@@ -13,6 +13,8 @@ use Rattle.table.proofs.Table as B
 use Rattle.table.proofs.Table.Laws as B′
 use Rattle.table.proofs.Refusal as N
 use Rattle.table.proofs.Refusal.Laws as N′
+use Rattle.machine.proofs.Machine as T
+use Rattle.machine.proofs.Machine.Laws as T′
 use Rattle.unit.proofs.Data.{Data, row}
 
 abbrev pub platform : Data
@@ -26,6 +28,9 @@ table = record { type = B.the-type; laws = B′.the-laws; plain = B′.the-plain
 
 abbrev pub refusal : Data
 refusal = record { type = N.the-type; laws = N′.the-laws; plain = N′.the-plain }
+
+abbrev pub machine : Data
+machine = record { type = T.the-type; laws = T′.the-laws; plain = T′.the-plain }
 
 abbrev pub Rows : Type 0
 Rows = RefT (List Task)

@@ -1,4 +1,6 @@
 // What the outside calls: a lent row of task records, and a machine that the caller lends and gets moved on.
+pub mod lending;
+
 ghost use mathlib.Core.Path.{_≡_};
 ghost use Prim.Native.Nat.{_<_, min};
 ghost use Rattle.table.specs.Limits.{mostTasks};

@@ -1,2 +1,5 @@
+pub mod Jobs
 pub mod StateParts
 pub mod StateTest
+pub mod StateLoops
+pub mod StateFresh

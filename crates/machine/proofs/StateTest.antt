@@ -1,7 +1,7 @@
 -- From the test of refusal 14 to the conditions of a state part by part, and back.
 use Prim.Native.Nat.{ℕ, suc, _-_, _^_, _<_, _≤_}
 use mathlib.Core.Path.{_≡_, refl, sym}
-use mathlib.Core.Bool.{true, _&&_, _||_, true≢false, or-true}
+use mathlib.Core.Bool.{Bool, true, _&&_, _||_, true≢false, or-true}
 use native.Mathlib.Omega.{arith}
 use native.Mathlib.Nat.{mod-lt, mod-eq-of-lt}
 use native.Mathlib.Decide.{decLe}
@@ -25,7 +25,7 @@ use Rattle.machine.specs.declared.Job.{Job}
 use Rattle.machine.specs.declared.Machine.{Machine}
 use Rattle.machine.specs.Jobs.{isIdle, noJob, job, running}
 use Rattle.machine.specs.Conditions.{isNoTask, isNoJob, hasNothing, goodStage, goodJob, goodState}
-use Rattle.machine.proofs.StateParts.{Rests, Idles, Runs, ByStage, GoodJob, GoodState}
+use Rattle.machine.proofs.StateParts.{Rests, ByStage, GoodJob, GoodState}
 
 -- all of x is below p
 below-lt : (x p : ℕ) → without x (below p) ≡ 0 → x < 2 ^ p
@@ -112,11 +112,12 @@ pub job-test : (p : ℕ) (τ : Task) (j : Job) → GoodJob p τ j → goodJob p 
 unfolding goodJob
 job-test p τ j g = rw (le-leb (j .age) (T τ) (g .age), stage-test p τ j (j .stage) (g .stage))
 
-past-test : (n i : ℕ) (τ : Task) (j : Job) → (n ≤ i → (τ ≡ noTask) × (j ≡ noJob)) → leb (suc i) n || isNoTask τ && isNoJob j ≡ true
-past-test n i τ j h =
+-- what is asked of entries past n alone
+pub past-test : (n i : ℕ) (b : Bool) → (n ≤ i → b ≡ true) → leb (suc i) n || b ≡ true
+past-test n i b h =
     elim (decLe (suc i) n) [
       | yes l ↦ rw (le-leb (suc i) n l)
-      | no l ↦ let e = h (omega arith) in rw (e .0, e .1) (or-true (leb (suc i) n))
+      | no l ↦ rw (h (omega arith)) (or-true (leb (suc i) n))
     ]
 
 pub state-good : (m : Machine) → length (m .table .rows) ≡ mostTasks → goodState m ≡ true → GoodState m
@@ -146,7 +147,7 @@ state-test m g =
     rw (
       eq-eqb (refusal (m .table) .number) 0 (g .accepted),
       every-of (λ k. leb k (m .table .n) || isNoTask (τ (m .table) k) && isNoJob (job m k)) mostTasks
-          (λ i l. past-test (m .table .n) i (τ (m .table) (suc i)) (job m (suc i)) (λ h. (g .noTasks i h l, g .noJobs i h l))),
+          (λ i l. past-test (m .table .n) i _ (λ h. rw (g .noTasks i h l, g .noJobs i h l))),
       every-of (λ k. goodJob (P (m .table)) (τ (m .table) k) (job m k)) (m .table .n) (λ i l. job-test _ _ _ (g .each i l)),
       apart-all (λ i. job m (suc i) .held) (m .table .n) (g .apart),
       le-leb (running m) (M (m .table)) (g .cores),

@@ -38,3 +38,8 @@ positive (suc n) e = omega arith
 pub both : (a b : Bool) → a && b ≡ true → (a ≡ true) × (b ≡ true)
 both true b e = (refl, e)
 both false b e = absurd (true≢false (sym e))
+
+-- a test that cannot hold
+pub false-of : (b : Bool) → (b ≡ true → ⊥) → b ≡ false
+false-of true h = absurd (h refl)
+false-of false h = refl

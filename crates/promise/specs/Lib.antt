@@ -1,0 +1,3 @@
+pub mod Sequences
+pub mod Promise
+pub mod Time

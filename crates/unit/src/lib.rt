@@ -1,5 +1,6 @@
 // What the outside calls: a lent row of task records, and a machine that the caller lends and gets moved on.
 pub mod lending;
+pub mod raw;
 
 ghost use mathlib.Core.Path.{_≡_};
 ghost use Prim.Native.Nat.{_<_, min};

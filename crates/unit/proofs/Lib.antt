@@ -1,5 +1,6 @@
 pub mod Cut
 pub mod Data
+pub mod Demands
 pub mod Fill
 pub mod First
 pub mod Judged

@@ -6,3 +6,4 @@ pub mod Widths
 pub mod Signed
 pub mod Tasks
 pub mod Determined
+pub mod Padded

@@ -5,4 +5,5 @@ pub mod Runs
 pub mod Complete
 pub mod Sound
 pub mod Theorem
+pub mod Shift
 pub mod Cases

@@ -5,3 +5,4 @@ pub mod Cells
 pub mod Texts
 pub mod Platforms
 pub mod Tasks
+pub mod Ticks

@@ -5,7 +5,7 @@ use mathlib.Core.Bool.{true, false}
 use mathlib.Core.List.{List, [], _∷_, _++_, map, map-append}
 use native.Mathlib.Omega.{arith}
 use lib.Dec.{lit<}
-use lib.ListN.{length, getD, set, replicate, length-append, length-map}
+use lib.ListN.{length, getD, set, replicate, length-map}
 use Rattle.maths.specs.Padded.{padded}
 use Rattle.maths.proofs.Padded.{padded-none, padded-more, padded-full, getD-padded}
 use Rattle.table.specs.declared.Platform.{Platform}
@@ -13,14 +13,13 @@ use Rattle.table.specs.declared.Task.{Task}
 use Rattle.table.specs.Limits.{mostTasks}
 use Rattle.table.specs.Tasks.{noTask}
 use Rattle.forms.specs.Forms.{tasksForm, crlf}
-use Rattle.forms.specs.Reads.{found, refused}
-use Rattle.forms.specs.Reader.{word, read}
+use Rattle.forms.specs.Reads.{refused}
+use Rattle.forms.specs.Reader.{read}
 use Rattle.readers.specs.declared.Row.{Row}
 use Rattle.readers.specs.Inputs.{noRefusal, taskOf, tableOf, tableRead}
 use Rattle.readers.specs.Places.{agreeAt, rowAt}
-use Rattle.readers.proofs.Along.{from}
-use Rattle.readers.proofs.Rows.{agree-inside, row-inside}
-use Rattle.readers.proofs.Texts.{head-good, ends, begins, row-good, row-bad}
+use Rattle.readers.proofs.Cells.{RowOn}
+use Rattle.readers.proofs.Texts.{Line, Many, line-start, line-end, line-bad, line-row, line-next}
 
 same-task : (numbers row : List ℕ) → numbers ≡ padded 4 0 row → taskOf numbers ≡ taskOf row
 same-task numbers row e =
@@ -45,55 +44,53 @@ module _ (kept : List Task) (rows : List (List ℕ)) (n : ℕ) where
       ∙ sym
       (ap (padded mostTasks noTask) (map-append taskOf rows (row ∷ [])) ∙ padded-full noTask mostTasks (map taskOf rows) (taskOf row ∷ []) (omega arith))
 
--- at a line's beginning
+tasks-many : Many tasksForm 3
+tasks-many = record { many = refl; first = refl; others = refl }
+
+-- at a line's beginning, with the tasks that are kept
 pub record Here (text : List ℕ) (at : ℕ) (kept : List Task) (n : ℕ) : Type 0 where
   pub rows : List (List ℕ)
-  pub on : read tasksForm text ≡ from tasksForm text at (word rows [])
-  pub count : n ≡ length rows
+  pub line : Line tasksForm text rows at n
   pub keeps : kept ≡ padded mostTasks noTask (map taskOf rows)
-  pub inside : at ≤ length text
-  pub few : n ≤ at
 
 pub here-start : (text : List ℕ) (k : ℕ) → k ≡ agreeAt text 0 (tasksForm .header ++ crlf) → 9 ≤ k → Here text k (replicate mostTasks noTask) 0
 here-start text k e h =
-    record {
-      rows = [];
-      on = head-good tasksForm text k e h;
-      count = refl;
-      keeps = sym (padded-none noTask mostTasks);
-      inside = rw e (agree-inside text 0 (tasksForm .header ++ crlf) (omega arith));
-      few = omega arith;
-    }
+    record { rows = []; line = line-start tasksForm 3 tasks-many text k e h; keeps = sym (padded-none noTask mostTasks) }
 
 module _ (text : List ℕ) (at : ℕ) (kept : List Task) (n : ℕ) (h : Here text at kept n) where
   pub here-end : (platform : Platform) → length text ≤ at
       → tableRead platform (read tasksForm text) ≡ record { refused = noRefusal; table = record { platform = platform; n = n; rows = kept } }
   unfolding tableOf
-  here-end platform l = ap (tableRead platform) (h .on ∙ ends tasksForm text (h .rows) at refl l) ∙ rw (h .count, h .keeps)
+  here-end platform l = ap (tableRead platform) (line-end tasksForm 3 tasks-many text (h .rows) at n (h .line) l) ∙ rw (h .line .count, h .keeps)
 
   module _ (less : at < length text) (x : Row) (e : x ≡ rowAt text at 4) where
     pub here-bad : x .whole ≡ false → read tasksForm text ≡ refused (x .next)
-    here-bad f = h .on ∙ begins tasksForm text 3 refl refl (h .rows) at refl less ∙ row-bad tasksForm text 3 (h .rows) at x e f
+    here-bad f = line-bad tasksForm 3 tasks-many text (h .rows) at n (h .line) less x e f
 
-    pub here-far : x .whole ≡ true → at < x .next
-    here-far f = row-good tasksForm text 3 (h .rows) at x e f .far
+    module _ (f : x .whole ≡ true) where
+      row-on : RowOn tasksForm text (h .rows) [] 3 at x
+      row-on = line-row tasksForm 3 tasks-many text (h .rows) at n (h .line) less x e f
 
-    here-row : x .whole ≡ true → (kept′ : List Task)
-        → ((row : List ℕ) → x .numbers ≡ padded 4 0 row → kept′ ≡ padded mostTasks noTask (map taskOf (h .rows ++ (row ∷ []))))
-        → Here text (x .next) kept′ (n + 1)
-    here-row f kept′ keeps =
-        let r = row-good tasksForm text 3 (h .rows) at x e f in
-        record {
-          rows = h .rows ++ (r .row ∷ []);
-          on = h .on ∙ begins tasksForm text 3 refl refl (h .rows) at refl less ∙ r .on;
-          count = let c = h .count in simp length-append (omega arith);
-          keeps = keeps (r .row) (r .numbers);
-          inside = rw e (row-inside text [] 4 at (h .inside));
-          few = let c = h .few in let g = r .far in omega arith;
-        }
+      pub here-far : at < x .next
+      here-far = row-on .far
 
-    pub here-kept : x .whole ≡ true → n < mostTasks → (task : Task) → task ≡ taskOf (x .numbers) → Here text (x .next) (set kept n task) (n + 1)
-    here-kept f room task t = here-row f (set kept n task) (λ row same. keep-more kept (h .rows) n task row (h .count) (h .keeps) room (t ∙ same-task (x .numbers) row same))
+      next-line : Line tasksForm text (h .rows ++ (row-on .row ∷ [])) (x .next) (n + 1)
+      unfolding row-on
+      next-line = line-next tasksForm 3 tasks-many text (h .rows) at n (h .line) less x e f
 
-    pub here-full : x .whole ≡ true → mostTasks ≤ n → Here text (x .next) kept (n + 1)
-    here-full f full = here-row f kept (λ row same. keep-full kept (h .rows) n row (h .count) (h .keeps) full)
+      pub here-kept : n < mostTasks → (task : Task) → task ≡ taskOf (x .numbers) → Here text (x .next) (set kept n task) (n + 1)
+      here-kept room task t =
+          let same = t ∙ same-task (x .numbers) (row-on .row) (row-on .numbers) in
+          record {
+            rows = h .rows ++ (row-on .row ∷ []);
+            line = next-line;
+            keeps = keep-more kept (h .rows) n task (row-on .row) (h .line .count) (h .keeps) room same;
+          }
+
+      pub here-full : mostTasks ≤ n → Here text (x .next) kept (n + 1)
+      here-full full =
+          record {
+            rows = h .rows ++ (row-on .row ∷ []);
+            line = next-line;
+            keeps = keep-full kept (h .rows) n (row-on .row) (h .line .count) (h .keeps) full;
+          }

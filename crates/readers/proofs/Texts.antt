@@ -6,14 +6,14 @@ use mathlib.Core.List.{List, [], _∷_, _++_}
 use mathlib.Core.Option.{none}
 use native.Mathlib.Omega.{arith}
 use native.Mathlib.Nat.{zero-add, add-zero}
-use lib.ListN.{length, getD, replicate}
+use lib.ListN.{length, getD, replicate, length-append}
 use Rattle.maths.specs.Padded.{padded}
 use Rattle.forms.specs.Forms.{Form, largest, crlf}
 use Rattle.forms.specs.Reads.{Answer, found, refused}
 use Rattle.forms.specs.Reader.{later, word, cell, mayBegin, mayEnd, step, rowsAt, read}
 use Rattle.readers.specs.declared.Row.{Row}
 use Rattle.readers.specs.Places.{agreeAt, rowAt}
-use Rattle.readers.proofs.Rows.{agree-most}
+use Rattle.readers.proofs.Rows.{agree-most, agree-inside, row-inside}
 use Rattle.readers.proofs.Along
 use Rattle.readers.proofs.Along.{from, short, halt, alike-inside, alike, Agreed, agrees, differs, agreed}
 use Rattle.readers.proofs.Cells
@@ -83,3 +83,47 @@ module _ (F : Form) (text : List ℕ) where
         go : Rowed F text rows [] left at x → from F text at (cell rows [] largest (replicate left largest) none) ≡ refused (x .next)
         go (Cells.whole f r) = not-both (x .whole) f h
         go (Cells.part f r) = r
+
+-- at a line's beginning, where these n rows have come and any number may
+pub record Line (F : Form) (text : List ℕ) (rows : List (List ℕ)) (at n : ℕ) : Type 0 where
+  pub on : read F text ≡ from F text at (word rows [])
+  pub count : n ≡ length rows
+  pub inside : at ≤ length text
+  pub few : n ≤ at
+
+-- forms of so many columns beyond the first, with any number of rows
+pub record Many (F : Form) (left : ℕ) : Type 0 where
+  pub many : F .one ≡ false
+  pub first : F .first ≡ largest
+  pub others : F .others ≡ replicate left largest
+
+module _ (F : Form) (left : ℕ) (shape : Many F left) (text : List ℕ) where
+  pub line-start : (k : ℕ) → k ≡ agreeAt text 0 (F .header ++ crlf) → length (F .header ++ crlf) ≤ k → Line F text [] k 0
+  line-start k e h =
+      record {
+        on = head-good F text k e h;
+        count = refl;
+        inside = rw e (agree-inside text 0 (F .header ++ crlf) (omega arith));
+        few = omega arith;
+      }
+
+  module _ (rows : List (List ℕ)) (at n : ℕ) (h : Line F text rows at n) where
+    pub line-end : length text ≤ at → read F text ≡ found rows
+    line-end l = h .on ∙ ends F text rows at (rw (shape .many)) l
+
+    module _ (less : at < length text) (x : Row) (e : x ≡ rowAt text at (suc left)) where
+      pub line-bad : x .whole ≡ false → read F text ≡ refused (x .next)
+      line-bad f = h .on ∙ begins F text left (shape .first) (shape .others) rows at (rw (shape .many)) less ∙ row-bad F text left rows at x e f
+
+      pub line-row : x .whole ≡ true → RowOn F text rows [] left at x
+      line-row f = row-good F text left rows at x e f
+
+      pub line-next : (f : x .whole ≡ true) → Line F text (rows ++ (line-row f .row ∷ [])) (x .next) (n + 1)
+      line-next f =
+          let r = line-row f in
+          record {
+            on = h .on ∙ begins F text left (shape .first) (shape .others) rows at (rw (shape .many)) less ∙ r .on;
+            count = let c = h .count in simp length-append (omega arith);
+            inside = rw e (row-inside text [] (suc left) at (h .inside));
+            few = let c = h .few in let g = r .far in omega arith;
+          }

@@ -2,10 +2,10 @@
 ghost use Prim.Native.Nat.{_≤_};
 ghost use mathlib.Core.Path.{_≡_};
 ghost use lib.ListN.{length};
-ghost use Rattle.forms.specs.Forms.{platformForm, tasksForm};
+ghost use Rattle.forms.specs.Forms.{platformForm, tasksForm, ticksForm};
 ghost use Rattle.forms.specs.Reads.{refused};
 ghost use Rattle.forms.specs.Reader.{read};
-ghost use Rattle.readers.specs.Inputs.{noPlatform, taskOf, platformRead, tableRead};
+ghost use Rattle.readers.specs.Inputs.{noPlatform, taskOf, platformRead, tableRead, ticksRead, tickAt};
 ghost use Rattle.readers.specs.Places.{agreeAt, grownTo, numberAt, ending, cellAt, rowAt};
 use table::Cores;
 use table::Partitions;
@@ -271,5 +271,85 @@ pub fn read_tasks(s: &[u8], platform: Platform) -> TableRead
             n: n,
             rows: rows,
         },
+    }
+}
+
+// One row of a ticks text: the sets of tasks released and finished.
+pub struct Tick {
+    pub released: u32,
+    pub finished: u32,
+}
+
+pub struct TicksRead {
+    pub refused: Refusal,
+    pub count: usize,
+}
+
+pub struct TickRead {
+    pub tick: Tick,
+    pub next: usize,
+}
+
+impl Tick {
+    // The place of the first tick of a ticks text, behind the header.
+    pub const FIRST: usize = 19;
+}
+
+// How many ticks a ticks text has, or refusal 15.
+pub fn read_ticks(s: &[u8]) -> TicksRead
+    ensures { λ r. ⌜ r ≡ ticksRead (read ticksForm (now (s .entry))) ⌝ }
+{
+    let mut at = agree_at(s, 0, b"released,finished\r\n");
+    if at < Tick::FIRST {
+        return TicksRead {
+            refused: Refusal {
+                number: 15,
+                row: at,
+            },
+            count: 0,
+        };
+    }
+    let mut n: usize = 0;
+    while at < s.len() {
+        let r = row_at(s, at, 2);
+        let next = r.next;
+        if !r.whole {
+            return TicksRead {
+                refused: Refusal {
+                    number: 15,
+                    row: next,
+                },
+                count: 0,
+            };
+        }
+        n += 1;
+        at = next;
+    }
+    TicksRead {
+        refused: Refusal { number: 0, row: 0 },
+        count: n,
+    }
+}
+
+// The tick at a place, and the place behind it; of a text that read_ticks accepts, from Tick::FIRST on.
+pub fn tick_at(s: &[u8], at: usize) -> TickRead
+    ensures { λ r. ⌜ r ≡ tickAt (now (s .entry)) at ⌝ }
+{
+    if s.len() < at {
+        return TickRead {
+            tick: Tick {
+                released: 0,
+                finished: 0,
+            },
+            next: at,
+        };
+    }
+    let r = row_at(s, at, 2);
+    TickRead {
+        tick: Tick {
+            released: r.numbers[0],
+            finished: r.numbers[1],
+        },
+        next: r.next,
     }
 }

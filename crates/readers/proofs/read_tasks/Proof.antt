@@ -41,7 +41,7 @@ loop-holds c =
     rw (c .none .ensures) (here-start (args .s .now) _ (c .before .before .agree-at .ensures) (c .before .if1 .left))
 
 row-at-requires : tie.Need-row-at-requires Inv-loop μ-loop
-row-at-requires c κs = (c .before .loop .inv .inside, search needs)
+row-at-requires c κs = (c .before .loop .inv .line .inside, search needs)
 
 bad-requires-2 : tie.Need-bad-requires-2 Inv-loop μ-loop
 bad-requires-2 c κs = search needs

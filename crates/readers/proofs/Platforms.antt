@@ -8,12 +8,13 @@ use lib.ListN.{length, getD}
 use Rattle.maths.specs.Padded.{padded}
 use Rattle.maths.proofs.Padded.{getD-padded}
 use Rattle.table.specs.declared.Platform.{Platform}
+use Rattle.table.specs.Refused.{noRefusal}
 use Rattle.forms.specs.Forms.{platformForm, crlf}
 use Rattle.forms.specs.Reads.{found, refused}
 use Rattle.forms.specs.Reader.{word, read}
 use Rattle.readers.specs.declared.Row.{Row}
 use Rattle.readers.specs.declared.PlatformRead.{PlatformRead}
-use Rattle.readers.specs.Inputs.{noRefusal, platformOf, platformRead}
+use Rattle.readers.specs.Inputs.{platformOf, platformRead}
 use Rattle.readers.specs.Places.{agreeAt, rowAt}
 use Rattle.readers.proofs.Along
 use Rattle.readers.proofs.Texts.{head-good, ends, closed, must-begin, row-good, row-bad}

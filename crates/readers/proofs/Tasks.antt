@@ -12,11 +12,12 @@ use Rattle.table.specs.declared.Platform.{Platform}
 use Rattle.table.specs.declared.Task.{Task}
 use Rattle.table.specs.Limits.{mostTasks}
 use Rattle.table.specs.Tasks.{noTask}
+use Rattle.table.specs.Refused.{noRefusal}
 use Rattle.forms.specs.Forms.{tasksForm, crlf}
 use Rattle.forms.specs.Reads.{refused}
 use Rattle.forms.specs.Reader.{read}
 use Rattle.readers.specs.declared.Row.{Row}
-use Rattle.readers.specs.Inputs.{noRefusal, taskOf, tableOf, tableRead}
+use Rattle.readers.specs.Inputs.{taskOf, tableOf, tableRead}
 use Rattle.readers.specs.Places.{agreeAt, rowAt}
 use Rattle.readers.proofs.Cells.{RowOn}
 use Rattle.readers.proofs.Texts.{Line, Many, line-start, line-end, line-bad, line-row, line-next}

@@ -9,6 +9,7 @@ use Rattle.table.specs.declared.Task.{Task}
 use Rattle.table.specs.declared.Table.{Table}
 use Rattle.table.specs.declared.Refusal.{Refusal}
 use Rattle.table.specs.Limits.{mostTasks}
+use Rattle.table.specs.Refused.{noRefusal}
 use Rattle.table.specs.Tasks.{noTask, emptyTable}
 use Rattle.forms.specs.Forms.{ticksForm, crlf}
 use Rattle.forms.specs.Reads.{Answer, found, refused}
@@ -18,9 +19,6 @@ use Rattle.readers.specs.declared.Tick.{Tick}
 use Rattle.readers.specs.declared.TicksRead.{TicksRead}
 use Rattle.readers.specs.declared.TickRead.{TickRead}
 use Rattle.readers.specs.Places.{rowAt}
-
-abbrev pub noRefusal : Refusal
-noRefusal = record { number = 0; row = 0 }
 
 abbrev pub badText : ℕ → Refusal
 badText offset = record { number = 15; row = offset }

@@ -10,7 +10,7 @@ use borrow.Author.Tests.{eq-eqb}
 use lib.ListN.{length, length-append}
 use Rattle.forms.specs.Digits.{digit, digits}
 use Rattle.forms.specs.Forms
-use Rattle.forms.specs.Forms.{Form, columns, Within, Each, Good, crlf, after, line, lines, text}
+use Rattle.forms.specs.Forms.{Form, columns, Within, Each, Good, crlf, ending, line, lines, text}
 use Rattle.forms.specs.Reads.{Answer, found, refused, Begins}
 use Rattle.forms.specs.Reader.{run, grow, State, word, cell, mayBegin, mayEnd, step, rowsAt, start, read}
 use Rattle.forms.proofs.Digits.{one-digit, add-digit}
@@ -84,7 +84,7 @@ module _ (F : Form) where
 
     -- from behind a number to the end of its row
     after-to : (ns : List ℕ) (m v : ℕ) (cs vs rest : List ℕ) (a : List (List ℕ)) → Within cs vs
-        → To (word (rows ++ ((ns ++ (v ∷ vs)) ∷ [])) []) rest a → To (cell rows ns m cs (some v)) (after vs ++ line vs ++ rest) a
+        → To (word (rows ++ ((ns ++ (v ∷ vs)) ∷ [])) []) rest a → To (cell rows ns m cs (some v)) (ending (length vs) ++ line vs ++ rest) a
     unfolding line
     after-to ns m v cs vs rest a Forms.none h =
         found-on (step F) (rowsAt F) _ _ 13 _ a (step-cr ns m v) (found-on (step F) (rowsAt F) _ _ 10 _ a (step-word _ 10 []) h)
@@ -162,5 +162,5 @@ module _ (F : Form) where
   live (word rows w) =
       let on = live-word (F .one) refl rows in
       (w ++ on .0, (on .1 .0, word-to rows w (on .0) (on .1 .0) (on .1 .1)))
-  live (cell rows ns m cs none) = (digits 0 ++ (after (zeros cs) ++ line (zeros cs) ++ []), (_, digits-to rows 1 0 (omega arith) ns m cs _ _ (omega arith) (after-to rows ns m 0 cs (zeros cs) [] _ (zeros-within cs) (ended-to rows _))))
-  live (cell rows ns m cs (some v)) = (after (zeros cs) ++ line (zeros cs) ++ [], (_, after-to rows ns m v cs (zeros cs) [] _ (zeros-within cs) (ended-to rows _)))
+  live (cell rows ns m cs none) = (digits 0 ++ (ending (length (zeros cs)) ++ line (zeros cs) ++ []), (_, digits-to rows 1 0 (omega arith) ns m cs _ _ (omega arith) (after-to rows ns m 0 cs (zeros cs) [] _ (zeros-within cs) (ended-to rows _))))
+  live (cell rows ns m cs (some v)) = (ending (length (zeros cs)) ++ line (zeros cs) ++ [], (_, after-to rows ns m v cs (zeros cs) [] _ (zeros-within cs) (ended-to rows _)))

@@ -1,11 +1,13 @@
 -- A number's digits, from the left: each digit more makes ten times the number, and that digit.
-use Prim.Native.Nat.{ℕ, zero, suc, _+_, _*_, _/_, _%_, _<_, _≤_}
+use Prim.Native.Nat.{ℕ, zero, suc, _+_, _*_, _/_, _%_, _^_, _<_, _≤_}
 use mathlib.Core.Path.{_≡_, refl, sym, ap, _∙_}
 use mathlib.Core.List.{List, [], _∷_, _++_}
 use native.Mathlib.Omega.{arith}
 use native.Mathlib.Decide.{decLt}
+use native.Mathlib.Nat.{pow-suc, div-lt-iff-lt-mul}
 use borrow.Author.Tests.{lt-ltb, le-ltb}
-use lib.Dec.{ltb}
+use lib.Dec.{ltb, lit<}
+use lib.ListN.{length, length-append}
 use Rattle.forms.specs.Digits.{digit, digitsIn, digits}
 
 last-digit : (k n : ℕ) → n < 10 → digitsIn (suc k) n ≡ digit n ∷ []
@@ -44,3 +46,32 @@ add-digit v d h g =
     let q : (10 * v + d) / 10 ≡ v = omega arith in
     let r : (10 * v + d) % 10 ≡ d = omega arith in
     more-digits _ _ (omega arith) ∙ rw (q, r, room (10 * v + d) (suc v) v (omega arith) (omega arith))
+
+pub split-digit : (n : ℕ) → 10 ≤ n → digits n ≡ digits (n / 10) ++ (digit (n % 10) ∷ [])
+split-digit n h =
+    let e : 10 * (n / 10) + n % 10 ≡ n = omega arith in
+    ap digits (sym e) ∙ add-digit (n / 10) (n % 10) (omega arith) (omega arith)
+
+pub width-one : (n : ℕ) → n < 10 → length (digits n) ≡ 1
+width-one n h = ap length (one-digit n h)
+
+pub width-more : (n : ℕ) → 10 ≤ n → length (digits n) ≡ suc (length (digits (n / 10)))
+width-more n h = ap length (split-digit n h) ∙ simp length-append (omega arith)
+
+pub width-some : (n : ℕ) → 0 < length (digits n)
+width-some n = go (decLt n 10)
+  where
+    go : Dec (n < 10) → 0 < length (digits n)
+    go (yes l) = omega (arith, width-one n l)
+    go (no g) = omega (arith, width-more n (omega arith))
+
+-- no more digits than the powers of ten above it
+pub width-most : (k n : ℕ) → n < 10 ^ suc k → length (digits n) ≤ suc k
+width-most zero n h = omega (arith, width-one n h)
+width-most (suc k) n h = go (decLt n 10) (width-most k (n / 10))
+  where
+    go : Dec (n < 10) → (n / 10 < 10 ^ suc k → length (digits (n / 10)) ≤ suc k) → length (digits n) ≤ suc (suc k)
+    go (yes l) ih = omega (arith, width-one n l)
+    go (no g) ih =
+        let less : n / 10 < 10 ^ suc k = div-lt-iff-lt-mul (lit< tt) .1 (rw pow-suc at h) in
+        omega (arith, width-more n (omega arith), ih less)

@@ -5,7 +5,7 @@ use mathlib.Core.List.{List, [], _∷_, _++_, append-assoc, append-nil}
 use mathlib.Core.Option.{Option, none, some}
 use Rattle.forms.specs.Digits.{digits}
 use Rattle.forms.specs.Forms
-use Rattle.forms.specs.Forms.{Form, Within, Each, crlf, after, line, lines, text}
+use Rattle.forms.specs.Forms.{Form, Within, Each, crlf, ending, line, lines, text}
 
 -- numbers that a comma follows, and what has come of the next
 unfoldable pub cells : List ℕ → List ℕ

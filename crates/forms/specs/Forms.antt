@@ -1,6 +1,6 @@
 -- The forms of document 01's texts as data, which rows are good in a form, and the one good text of such rows: every line
 -- ends in CR LF, the last too.
-use Prim.Native.Nat.{ℕ, _≤_}
+use Prim.Native.Nat.{ℕ, zero, suc, _≤_}
 use mathlib.Core.Path.{_≡_}
 use mathlib.Core.Bool.{Bool, true, false}
 use mathlib.Core.List.{List, [], _∷_, _++_}
@@ -48,14 +48,14 @@ pub record Good (F : Form) (rows : List (List ℕ)) : Type 0 where
 abbrev pub crlf : List ℕ
 crlf = cr ∷ lf ∷ []
 
--- what stands after a number, before the numbers that follow it in its row: a comma, or after the last CR LF
-abbrev pub after : List ℕ → List ℕ
-after [] = crlf
-after (n ∷ ns) = comma ∷ []
+-- what ends a number that so many follow in its row: a comma, or CR LF
+abbrev pub ending : ℕ → List ℕ
+ending zero = crlf
+ending (suc left) = comma ∷ []
 
 unfoldable pub line : List ℕ → List ℕ
 line [] = []
-line (n ∷ ns) = digits n ++ (after ns ++ line ns)
+line (n ∷ ns) = digits n ++ (ending (length ns) ++ line ns)
 
 unfoldable pub lines : List (List ℕ) → List ℕ
 lines [] = []

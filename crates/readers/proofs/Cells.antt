@@ -13,13 +13,13 @@ use lib.Dec.{eqb}
 use lib.ListN.{length, drop, getD, replicate, length-append}
 use Rattle.maths.specs.Padded.{padded}
 use Rattle.forms.specs.Bytes.{comma}
-use Rattle.forms.specs.Forms.{Form, largest, crlf}
+use Rattle.forms.specs.Forms.{ending, Form, largest, crlf}
 use Rattle.forms.specs.Reads.{Answer, found, refused}
 use Rattle.forms.specs.Reader.{keep, grow, State, word, cell, leave, step, rowsAt}
 use Rattle.readers.specs.declared.Number.{Number}
 use Rattle.readers.specs.declared.Cell.{Cell}
 use Rattle.readers.specs.declared.Row.{Row}
-use Rattle.readers.specs.Places.{agreeFrom, agreeAt, numberAt, ending, endedBy, cellAt, rowFrom}
+use Rattle.readers.specs.Places.{agreeFrom, agreeAt, numberAt, endedBy, cellAt, rowFrom}
 use Rattle.readers.proofs.Places.{agree-short, agree-other, agree-more}
 use Rattle.readers.proofs.Rows.{number-low, cell-none, cell-some}
 use Rattle.readers.proofs.Along.{from, short, halt, move, alike, Agreed, agrees, differs, agreed, Begun, nothing, number, begun}

@@ -10,12 +10,12 @@ use lib.Dec.{eqb}
 use lib.ListN.{length, drop, length-drop}
 use Rattle.maths.specs.Padded.{padded}
 use Rattle.forms.specs.Bytes.{comma}
-use Rattle.forms.specs.Forms.{largest}
+use Rattle.forms.specs.Forms.{ending, largest}
 use Rattle.forms.specs.Reader.{grow}
 use Rattle.readers.specs.declared.Number.{Number}
 use Rattle.readers.specs.declared.Cell.{Cell}
 use Rattle.readers.specs.declared.Row.{Row}
-use Rattle.readers.specs.Places.{agreeFrom, agreeAt, numberFrom, numberAt, ending, endedBy, cellAt, rowFrom, rowAt}
+use Rattle.readers.specs.Places.{agreeFrom, agreeAt, numberFrom, numberAt, endedBy, cellAt, rowFrom, rowAt}
 
 agree-bound : (next : ℕ) (word bytes : List ℕ) → agreeFrom next word bytes ≤ next + length bytes
 unfolding agreeFrom

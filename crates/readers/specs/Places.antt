@@ -7,8 +7,7 @@ use mathlib.Core.Option.{Option, none, some, Option·getD}
 use lib.Dec.{eqb}
 use lib.ListN.{length, drop}
 use Rattle.maths.specs.Padded.{padded}
-use Rattle.forms.specs.Bytes.{comma}
-use Rattle.forms.specs.Forms.{largest, crlf}
+use Rattle.forms.specs.Forms.{largest, ending}
 use Rattle.forms.specs.Reader.{isDigit, grow}
 use Rattle.readers.specs.declared.Number.{Number}
 use Rattle.readers.specs.declared.Cell.{Cell}
@@ -36,11 +35,6 @@ numberFrom next v (c ∷ bytes) =
 -- where no number begins, `next` is the place itself
 abbrev pub numberAt : List ℕ → ℕ → Number
 numberAt text at = numberFrom at none (drop at text)
-
--- what ends a number that so many follow in its row
-abbrev pub ending : ℕ → List ℕ
-ending zero = crlf
-ending (suc left) = comma ∷ []
 
 abbrev pub endedBy : List ℕ → List ℕ → Number → Cell
 endedBy text word x =

@@ -2,11 +2,11 @@
 ghost use Prim.Native.Nat.{_≤_};
 ghost use mathlib.Core.Path.{_≡_};
 ghost use lib.ListN.{length};
-ghost use Rattle.forms.specs.Forms.{platformForm, tasksForm, ticksForm};
+ghost use Rattle.forms.specs.Forms.{ending, platformForm, tasksForm, ticksForm};
 ghost use Rattle.forms.specs.Reads.{refused};
 ghost use Rattle.forms.specs.Reader.{read};
 ghost use Rattle.readers.specs.Inputs.{noPlatform, taskOf, platformRead, tableRead, ticksRead, tickAt};
-ghost use Rattle.readers.specs.Places.{agreeAt, grownTo, numberAt, ending, cellAt, rowAt};
+ghost use Rattle.readers.specs.Places.{agreeAt, grownTo, numberAt, cellAt, rowAt};
 use table::Cores;
 use table::Partitions;
 use table::Platform;

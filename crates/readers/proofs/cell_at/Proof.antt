@@ -2,7 +2,8 @@ use Prim.Native.Nat.{_≤_}
 use mathlib.Core.Path.{_≡_, refl, sym}
 use native.Mathlib.Omega.{arith}
 use lib.ListN.{length}
-use Rattle.readers.specs.Places.{numberAt, cellAt, ending}
+use Rattle.forms.specs.Forms.{ending}
+use Rattle.readers.specs.Places.{numberAt, cellAt}
 use Rattle.readers.proofs.Rows.{number-inside, cell-none, cell-some, ending-more}
 use mathlib.Core.Path.{_≡_, refl, sym, ap, _∙_}
 use Rattle.readers.proofs.Rows.{number-inside, cell-none, cell-some}

@@ -7,11 +7,12 @@ use borrow.Author.Tests.{not-true, not-false}
 use lib.ListN.{length, take}
 use Rattle.maths.specs.Padded.{padded}
 use Rattle.maths.proofs.Padded.{filled, filled-take}
+use Rattle.forms.specs.Forms.{ending}
 use Rattle.readers.specs.Places.{cellAt, rowFrom, rowAt}
 use Rattle.readers.proofs.Rows.{cell-inside, row-more, row-stop, row-end}
 use mathlib.Core.Path.{_≡_, refl, sym, ap, _∙_}
 use mathlib.Core.List.{List}
-use Rattle.readers.specs.Places.{cellAt, ending, rowFrom, rowAt}
+use Rattle.readers.specs.Places.{cellAt, rowFrom, rowAt}
 use borrow.Author.Needs.{needs}
 use Prim.Native.Nat.{suc, _+_, _≤_, _-_}
 use lib.Seq.{take-suc-set}

@@ -1,1 +1,4 @@
 pub mod Puts
+pub mod Rooms
+pub mod Rows
+pub mod Sequences

@@ -3,13 +3,20 @@ ghost use Prim.Native.Nat.{_+_, _≤_};
 ghost use mathlib.Core.Path.{_≡_};
 ghost use mathlib.Core.List.{_++_};
 ghost use lib.ListN.{length, take};
-ghost use lib.Seq.{sets};
 ghost use Rattle.forms.specs.Digits.{digits};
+ghost use Rattle.forms.specs.Forms.{ending, line};
+ghost use Rattle.writers.specs.Written.{Put, roomFor};
 use table::Refusal;
 
 pub struct Written {
     pub refused: Refusal,
     pub length: usize,
+}
+
+// What is left of some room, where there was enough.
+struct Room {
+    enough: bool,
+    left: usize,
 }
 
 // How many digits a number has.
@@ -45,7 +52,7 @@ fn digits_of(n: u64, w: usize) -> [u8; 20]
 // Copies the word into the buffer from a place on, and gives the place behind it.
 fn put_word(buf: &mut [u8], at: usize, word: &[u8]) -> usize
     requires { ⌜ at + length (now word) ≤ length (now buf) ⌝ }
-    ensures { λ r. ⌜ (r ≡ at + length (now (word .entry))) × (now (buf .exit) ≡ sets (now (buf .entry)) at (now (word .entry))) ⌝ }
+    ensures { λ r. ⌜ Put (now (buf .entry)) at (now (word .entry)) r (now (buf .exit)) ⌝ }
 {
     let mut next = at;
     let mut i: usize = 0;
@@ -60,9 +67,77 @@ fn put_word(buf: &mut [u8], at: usize, word: &[u8]) -> usize
 // A number at a place of the buffer.
 fn put_number(buf: &mut [u8], at: usize, n: u64) -> usize
     requires { ⌜ at + length (digits n) ≤ length (now buf) ⌝ }
-    ensures { λ r. ⌜ (r ≡ at + length (digits n)) × (now (buf .exit) ≡ sets (now (buf .entry)) at (digits n)) ⌝ }
+    ensures { λ r. ⌜ Put (now (buf .entry)) at (digits n) r (now (buf .exit)) ⌝ }
 {
     let w = width(n);
     let room = digits_of(n, w);
     put_word(buf, at, &room[..w])
+}
+
+// A number and what ends it, where so many more follow in its row.
+fn put_cell(buf: &mut [u8], at: usize, n: u64, left: usize) -> usize
+    requires { ⌜ at + length (digits n ++ ending left) ≤ length (now buf) ⌝ }
+    ensures { λ r. ⌜ Put (now (buf .entry)) at (digits n ++ ending left) r (now (buf .exit)) ⌝ }
+{
+    let next = put_number(buf, at, n);
+    if left == 0 {
+        return put_word(buf, next, b"\r\n");
+    }
+    put_word(buf, next, b",")
+}
+
+fn cell_room(n: u64, left: usize, room: usize) -> Room
+    ensures { λ r. ⌜ r ≡ roomFor (digits n ++ ending left) room ⌝ }
+{
+    let mut size = width(n) + 1;
+    if left == 0 {
+        size += 1;
+    }
+    if room < size {
+        return Room {
+            enough: false,
+            left: 0,
+        };
+    }
+    Room {
+        enough: true,
+        left: room - size,
+    }
+}
+
+// A row of the first numbers, so many as there are columns.
+fn put_row(buf: &mut [u8], at: usize, numbers: [u64; 5], columns: usize) -> usize
+    requires { ⌜ (columns ≤ 5) × (at + length (line (take columns numbers)) ≤ length (now buf)) ⌝ }
+    ensures { λ r. ⌜ Put (now (buf .entry)) at (line (take columns numbers)) r (now (buf .exit)) ⌝ }
+{
+    let mut next = at;
+    let mut j: usize = 0;
+    while j < columns {
+        next = put_cell(buf, next, numbers[j], columns - j - 1);
+        j += 1;
+    }
+    next
+}
+
+fn row_room(numbers: [u64; 5], columns: usize, room: usize) -> Room
+    requires { ⌜ columns ≤ 5 ⌝ }
+    ensures { λ r. ⌜ r ≡ roomFor (line (take columns numbers)) room ⌝ }
+{
+    let mut left = room;
+    let mut j: usize = 0;
+    while j < columns {
+        let m = cell_room(numbers[j], columns - j - 1, left);
+        if !m.enough {
+            return Room {
+                enough: false,
+                left: 0,
+            };
+        }
+        left = m.left;
+        j += 1;
+    }
+    Room {
+        enough: true,
+        left: left,
+    }
 }

@@ -37,8 +37,7 @@ returns : tie.Need-returns
 returns c =
     let k = c .before .before in
     let d = k .before .before .before .digits-of .ensures in
-    let e = k .put-word .ensures in
-    (e .0 ∙ rw d, e .1 ∙ rw d)
+    rw d at (k .put-word .ensures)
 
 pub put-number-spec : {M : Type 1} → statement M
 put-number-spec =

@@ -52,7 +52,7 @@ returns : tie.Need-returns Inv-loop μ-loop
 returns c =
     let k = c .before in
     let word = k .before .args .word .now in
-    (omega arith, sym (word-end (k .loop .buf) (k .loop .next) word (k .loop .i) (omega arith)) ∙ k .loop .inv .3)
+    record { behind = omega arith; holds = sym (word-end (k .loop .buf) (k .loop .next) word (k .loop .i) (omega arith)) ∙ k .loop .inv .3 }
 
 pub put-word-spec : {M : Type 1} → statement M
 put-word-spec =

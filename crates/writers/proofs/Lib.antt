@@ -2,3 +2,4 @@ pub mod Puts
 pub mod Rooms
 pub mod Rows
 pub mod Sequences
+pub mod Wholes

@@ -24,6 +24,10 @@ written text buffer =
 unfoldable pub leaves : List ℕ → List ℕ → List ℕ
 leaves text buffer = cond (leb (length text) (length buffer)) (text ++ drop (length text) buffer) buffer
 
+pub record Wrote (text buffer : List ℕ) (answer : Written) (after : List ℕ) : Type 0 where
+  pub answers : answer ≡ written text buffer
+  pub holds : after ≡ leaves text buffer
+
 -- whether a text fits, and how much room it leaves
 unfoldable pub roomFor : List ℕ → ℕ → Room
 roomFor text room =

@@ -5,8 +5,13 @@ ghost use mathlib.Core.List.{_++_};
 ghost use lib.ListN.{length, take};
 ghost use Rattle.forms.specs.Digits.{digits};
 ghost use Rattle.forms.specs.Forms.{ending, line};
-ghost use Rattle.writers.specs.Written.{Put, roomFor};
+ghost use Rattle.writers.specs.Outputs.{platformText, taskRow, tasksText, refusedText};
+ghost use Rattle.writers.specs.Written.{Put, roomFor, tooShort, Wrote};
+ghost use Rattle.table.specs.Refused.{noRefusal};
+use table::Platform;
 use table::Refusal;
+use table::Table;
+use table::Task;
 
 pub struct Written {
     pub refused: Refusal,
@@ -140,4 +145,73 @@ fn row_room(numbers: [u64; 5], columns: usize, room: usize) -> Room
         enough: true,
         left: left,
     }
+}
+
+fn word_room(word: &[u8], room: usize) -> Room
+    ensures { λ r. ⌜ r ≡ roomFor (now (word .entry)) room ⌝ }
+{
+    if room < word.len() {
+        return Room {
+            enough: false,
+            left: 0,
+        };
+    }
+    Room {
+        enough: true,
+        left: room - word.len(),
+    }
+}
+
+impl Written {
+    fn short() -> Written
+        ensures { λ r. ⌜ r ≡ record { refused = tooShort; length = 0 } ⌝ }
+    {
+        Written {
+            refused: Refusal { number: 16, row: 0 },
+            length: 0,
+        }
+    }
+
+    fn whole(length: usize) -> Written
+        ensures { λ r. ⌜ r ≡ record { refused = noRefusal; length = length } ⌝ }
+    {
+        Written {
+            refused: Refusal { number: 0, row: 0 },
+            length: length,
+        }
+    }
+}
+
+// A header line and one row.
+fn write_one(buf: &mut [u8], header: &[u8], numbers: [u64; 5], columns: usize) -> Written
+    requires { ⌜ columns ≤ 5 ⌝ }
+    ensures { λ r. ⌜ Wrote (now (header .entry) ++ line (take columns numbers)) (now (buf .entry)) r (now (buf .exit)) ⌝ }
+{
+    let head = word_room(header, buf.len());
+    if !head.enough {
+        return Written::short();
+    }
+    let row = row_room(numbers, columns, head.left);
+    if !row.enough {
+        return Written::short();
+    }
+    let next = put_word(buf, 0, header);
+    let end = put_row(buf, next, numbers, columns);
+    Written::whole(end)
+}
+
+// The text of a platform.
+pub fn write_platform(p: Platform, buf: &mut [u8]) -> Written
+    ensures { λ r. ⌜ Wrote (platformText p) (now (buf .entry)) r (now (buf .exit)) ⌝ }
+{
+    let numbers = [p.cores.0 as u64, p.partitions.0 as u64, 0, 0, 0];
+    write_one(buf, b"cores,partitions\r\n", numbers, 2)
+}
+
+// The listing of a refused table or text.
+pub fn write_refused(r: Refusal, buf: &mut [u8]) -> Written
+    ensures { λ w. ⌜ Wrote (refusedText r) (now (buf .entry)) w (now (buf .exit)) ⌝ }
+{
+    let numbers = [r.number as u64, r.row as u64, 0, 0, 0];
+    write_one(buf, b"refused,row\r\n", numbers, 2)
 }

@@ -3,3 +3,4 @@ pub mod Rooms
 pub mod Rows
 pub mod Sequences
 pub mod Wholes
+pub mod Tables

@@ -70,3 +70,9 @@ module _ (a b : List ℕ) (room : ℕ) (x : Room) (e : x ≡ roomFor a room) whe
   room-stop h =
       let less = short-is a room (ap (λ (y : Room). y .enough) (sym e) ∙ h) in
       room-short (a ++ b) room (omega (arith, length-append a b))
+
+  -- too little for the first piece is too little for both
+  pub room-halt : x .enough ≡ false → x ≡ roomFor (a ++ b) room
+  room-halt h =
+      let less = short-is a room (ap (λ (y : Room). y .enough) (sym e) ∙ h) in
+      e ∙ room-short a room less ∙ sym (room-stop h)

@@ -1,11 +1,12 @@
 // Writers of document 01's texts into buffers that the caller lends. A text is measured first; where it does not fit, nothing is changed.
-ghost use Prim.Native.Nat.{_+_, _≤_};
+ghost use Prim.Native.Nat.{_+_, _≤_, min};
 ghost use mathlib.Core.Path.{_≡_};
 ghost use mathlib.Core.List.{_++_};
 ghost use lib.ListN.{length, take};
 ghost use Rattle.forms.specs.Digits.{digits};
 ghost use Rattle.forms.specs.Forms.{ending, line};
 ghost use Rattle.writers.specs.Outputs.{platformText, taskRow, tasksText, refusedText};
+ghost use Rattle.table.specs.Limits.{mostTasks};
 ghost use Rattle.writers.specs.Written.{Put, roomFor, tooShort, Wrote};
 ghost use Rattle.table.specs.Refused.{noRefusal};
 use table::Platform;
@@ -214,4 +215,71 @@ pub fn write_refused(r: Refusal, buf: &mut [u8]) -> Written
 {
     let numbers = [r.number as u64, r.row as u64, 0, 0, 0];
     write_one(buf, b"refused,row\r\n", numbers, 2)
+}
+
+fn task_numbers(t: Task) -> [u64; 5]
+    ensures { λ r. ⌜ take 4 r ≡ taskRow t ⌝ }
+{
+    [t.d as u64, t.t as u64, t.c as u64, t.a.0 as u64, 0]
+}
+
+// How many rows a table holds.
+fn held_rows(t: Table) -> usize
+    ensures { λ r. ⌜ r ≡ min (t .n) mostTasks ⌝ }
+{
+    if t.n < Table::MOST { t.n } else { Table::MOST }
+}
+
+fn tasks_room(t: Table, room: usize) -> Room
+    ensures { λ r. ⌜ r ≡ roomFor (tasksText t) room ⌝ }
+{
+    let head = word_room(b"D,T,C,A\r\n", room);
+    if !head.enough {
+        return head;
+    }
+    let n = held_rows(t);
+    let mut left = head.left;
+    let mut i: usize = 0;
+    while i < n {
+        let task = t.rows[i];
+        let numbers = task_numbers(task);
+        let row = row_room(numbers, 4, left);
+        if !row.enough {
+            return row;
+        }
+        left = row.left;
+        i += 1;
+    }
+    Room {
+        enough: true,
+        left: left,
+    }
+}
+
+fn put_tasks(buf: &mut [u8], t: Table) -> usize
+    requires { ⌜ length (tasksText t) ≤ length (now buf) ⌝ }
+    ensures { λ r. ⌜ Put (now (buf .entry)) 0 (tasksText t) r (now (buf .exit)) ⌝ }
+{
+    let n = held_rows(t);
+    let mut next = put_word(buf, 0, b"D,T,C,A\r\n");
+    let mut i: usize = 0;
+    while i < n {
+        let task = t.rows[i];
+        let numbers = task_numbers(task);
+        next = put_row(buf, next, numbers, 4);
+        i += 1;
+    }
+    next
+}
+
+// The tasks text of a table.
+pub fn write_tasks(t: Table, buf: &mut [u8]) -> Written
+    ensures { λ r. ⌜ Wrote (tasksText t) (now (buf .entry)) r (now (buf .exit)) ⌝ }
+{
+    let m = tasks_room(t, buf.len());
+    if !m.enough {
+        return Written::short();
+    }
+    let end = put_tasks(buf, t);
+    Written::whole(end)
 }

@@ -4,3 +4,4 @@ pub mod Rows
 pub mod Sequences
 pub mod Wholes
 pub mod Tables
+pub mod Signed

@@ -2,11 +2,13 @@
 ghost use Prim.Native.Nat.{_+_, _≤_, min};
 ghost use mathlib.Core.Path.{_≡_};
 ghost use mathlib.Core.List.{_++_};
+ghost use lib.IntN.{natAbs};
 ghost use lib.ListN.{length, take};
 ghost use Rattle.forms.specs.Digits.{digits};
 ghost use Rattle.forms.specs.Forms.{ending, line};
 ghost use Rattle.writers.specs.Outputs.{platformText, taskRow, tasksText, refusedText};
 ghost use Rattle.table.specs.Limits.{mostTasks};
+ghost use Rattle.writers.specs.Signed.{negative};
 ghost use Rattle.writers.specs.Written.{Put, roomFor, tooShort, Wrote};
 ghost use Rattle.table.specs.Refused.{noRefusal};
 use table::Platform;
@@ -282,4 +284,19 @@ pub fn write_tasks(t: Table, buf: &mut [u8]) -> Written
     }
     let end = put_tasks(buf, t);
     Written::whole(end)
+}
+
+fn is_negative(z: i64) -> bool
+    ensures { λ r. ⌜ r ≡ negative z ⌝ }
+{
+    z < 0
+}
+
+fn magnitude(z: i64) -> u64
+    ensures { λ r. ⌜ r ≡ natAbs z ⌝ }
+{
+    if z < 0 {
+        return ((-1 - z) as u64) + 1;
+    }
+    z as u64
 }

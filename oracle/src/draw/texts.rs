@@ -215,7 +215,7 @@ fn spoil_line(rng: &mut Rng, text: Vec<u8>) -> Vec<u8> {
                 [&body[..], rng.pick(&["\n", "\r", "\n\r", "\r\r\n", "\r\n\r\n", "", " \r\n", ",\r\n"]).as_bytes()].concat()
         }
         6 => lines.insert(at, b"\r\n".to_vec()),
-        _ => lines[at] = [&[b','], &body[..], b"\r\n"].concat(),
+        _ => lines[at] = [b",", &body[..], b"\r\n"].concat(),
     }
     lines.concat()
 }

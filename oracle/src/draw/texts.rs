@@ -102,6 +102,9 @@ fn long(rng: &mut Rng, form: &Form) -> Vec<u8> {
     text
 }
 
+/// The longest text of a case: as much as the program `answers` has room for.
+const ROOM: usize = 65_536;
+
 /// A text of the form, good or with up to three things wrong.
 pub fn spoiled(rng: &mut Rng, form: &Form, mut text: Vec<u8>) -> Vec<u8> {
     for _ in 0..rng.pick(&[0, 1, 1, 1, 1, 2, 3]) {
@@ -113,6 +116,7 @@ pub fn spoiled(rng: &mut Rng, form: &Form, mut text: Vec<u8>) -> Vec<u8> {
             _ => spoil_whole(rng, form, text),
         };
     }
+    text.truncate(ROOM);
     text
 }
 

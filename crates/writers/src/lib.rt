@@ -2,13 +2,12 @@
 ghost use Prim.Native.Nat.{_+_, _≤_, min};
 ghost use mathlib.Core.Path.{_≡_};
 ghost use mathlib.Core.List.{_++_};
-ghost use lib.IntN.{natAbs};
 ghost use lib.ListN.{length, take};
 ghost use Rattle.forms.specs.Digits.{digits};
 ghost use Rattle.forms.specs.Forms.{ending, line};
-ghost use Rattle.writers.specs.Outputs.{platformText, taskRow, tasksText, refusedText};
+ghost use Rattle.writers.specs.Outputs.{platformText, taskRow, tasksText, refusedText, marginsText};
 ghost use Rattle.table.specs.Limits.{mostTasks};
-ghost use Rattle.writers.specs.Signed.{negative};
+ghost use Rattle.writers.specs.Signed.{marginOf, sign, marginRow};
 ghost use Rattle.writers.specs.Written.{Put, roomFor, tooShort, Wrote};
 ghost use Rattle.table.specs.Refused.{noRefusal};
 use table::Platform;
@@ -286,17 +285,85 @@ pub fn write_tasks(t: Table, buf: &mut [u8]) -> Written
     Written::whole(end)
 }
 
-fn is_negative(z: i64) -> bool
-    ensures { λ r. ⌜ r ≡ negative z ⌝ }
-{
-    z < 0
+// A margin for the listing: whether it is negative, its size, and 1 where it is above 0.
+struct Margin {
+    below: bool,
+    size: u64,
+    pass: u64,
 }
 
-fn magnitude(z: i64) -> u64
-    ensures { λ r. ⌜ r ≡ natAbs z ⌝ }
+fn margin_of(z: i64) -> Margin
+    ensures { λ r. ⌜ r ≡ marginOf z ⌝ }
 {
     if z < 0 {
-        return ((-1 - z) as u64) + 1;
+        return Margin {
+            below: true,
+            size: ((-1 - z) as u64) + 1,
+            pass: 0,
+        };
     }
-    z as u64
+    let size = z as u64;
+    if size == 0 {
+        return Margin {
+            below: false,
+            size: 0,
+            pass: 0,
+        };
+    }
+    Margin {
+        below: false,
+        size: size,
+        pass: 1,
+    }
+}
+
+fn sign_room(below: bool, room: usize) -> Room
+    ensures { λ r. ⌜ r ≡ roomFor (sign below) room ⌝ }
+{
+    if below {
+        return word_room(b"-", room);
+    }
+    Room {
+        enough: true,
+        left: room,
+    }
+}
+
+fn put_sign(buf: &mut [u8], at: usize, below: bool) -> usize
+    requires { ⌜ at + length (sign below) ≤ length (now buf) ⌝ }
+    ensures { λ r. ⌜ Put (now (buf .entry)) at (sign below) r (now (buf .exit)) ⌝ }
+{
+    if below {
+        return put_word(buf, at, b"-");
+    }
+    at
+}
+
+fn margin_room(k: u64, m: Margin, room: usize) -> Room
+    ensures { λ r. ⌜ r ≡ roomFor (marginRow k m) room ⌝ }
+{
+    let task = cell_room(k, 2, room);
+    if !task.enough {
+        return task;
+    }
+    let sign = sign_room(m.below, task.left);
+    if !sign.enough {
+        return sign;
+    }
+    let margin = cell_room(m.size, 1, sign.left);
+    if !margin.enough {
+        return margin;
+    }
+    cell_room(m.pass, 0, margin.left)
+}
+
+// The row of a task and its margin.
+fn put_margin(buf: &mut [u8], at: usize, k: u64, m: Margin) -> usize
+    requires { ⌜ at + length (marginRow k m) ≤ length (now buf) ⌝ }
+    ensures { λ r. ⌜ Put (now (buf .entry)) at (marginRow k m) r (now (buf .exit)) ⌝ }
+{
+    let task = put_cell(buf, at, k, 2);
+    let sign = put_sign(buf, task, m.below);
+    let margin = put_cell(buf, sign, m.size, 1);
+    put_cell(buf, margin, m.pass, 0)
 }

@@ -5,3 +5,4 @@ pub mod Sequences
 pub mod Wholes
 pub mod Tables
 pub mod Signed
+pub mod Margins

@@ -46,5 +46,5 @@ unfoldable pub marginLines : ℕ → List ℤ → List ℕ
 marginLines k [] = []
 marginLines k (z ∷ zs) = marginRow k (marginOf z) ++ marginLines (suc k) zs
 
-abbrev pub marginsText : ℕ → List ℤ → List ℕ
+unfoldable pub marginsText : ℕ → List ℤ → List ℕ
 marginsText n margins = bytes "task,margin,pass" ++ (crlf ++ marginLines 1 (take n margins))

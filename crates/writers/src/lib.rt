@@ -367,3 +367,44 @@ fn put_margin(buf: &mut [u8], at: usize, k: u64, m: Margin) -> usize
     let margin = put_cell(buf, sign, m.size, 1);
     put_cell(buf, margin, m.pass, 0)
 }
+
+fn margins_room(n: usize, margins: [i64; Table::MOST], room: usize) -> Room
+    requires { ⌜ n ≤ mostTasks ⌝ }
+    ensures { λ r. ⌜ r ≡ roomFor (marginsText n margins) room ⌝ }
+{
+    let head = word_room(b"task,margin,pass\r\n", room);
+    if !head.enough {
+        return head;
+    }
+    let mut left = head.left;
+    let mut i: usize = 0;
+    while i < n {
+        let z = margins[i];
+        let m = margin_of(z);
+        i += 1;
+        let row = margin_room(i as u64, m, left);
+        if !row.enough {
+            return row;
+        }
+        left = row.left;
+    }
+    Room {
+        enough: true,
+        left: left,
+    }
+}
+
+fn put_margins(buf: &mut [u8], n: usize, margins: [i64; Table::MOST]) -> usize
+    requires { ⌜ (n ≤ mostTasks) × (length (marginsText n margins) ≤ length (now buf)) ⌝ }
+    ensures { λ r. ⌜ Put (now (buf .entry)) 0 (marginsText n margins) r (now (buf .exit)) ⌝ }
+{
+    let mut next = put_word(buf, 0, b"task,margin,pass\r\n");
+    let mut i: usize = 0;
+    while i < n {
+        let z = margins[i];
+        let m = margin_of(z);
+        i += 1;
+        next = put_margin(buf, next, i as u64, m);
+    }
+    next
+}

@@ -6,3 +6,4 @@ pub mod Wholes
 pub mod Tables
 pub mod Signed
 pub mod Margins
+pub mod Ticks

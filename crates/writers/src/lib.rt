@@ -8,7 +8,7 @@ ghost use Rattle.forms.specs.Forms.{ending, line};
 ghost use Rattle.writers.specs.Outputs.{platformRow, platformText, taskRow, tasksText, ticksText, refusedText, marginsText};
 ghost use Rattle.table.specs.Limits.{mostTasks};
 ghost use Rattle.writers.specs.Signed.{marginOf, sign, marginRow};
-ghost use Rattle.writers.specs.Written.{Put, roomFor, tooShort, Wrote};
+ghost use Rattle.writers.specs.Written.{Put, roomFor, tooShort, Wrote, WroteBoth};
 ghost use Rattle.table.specs.Refused.{noRefusal};
 use table::Platform;
 use table::Refusal;
@@ -490,4 +490,45 @@ pub fn write_ticks(released: &[u32], finished: &[u32], buf: &mut [u8]) -> Writte
     }
     let end = put_ticks(buf, released, finished);
     Written::whole(end)
+}
+
+pub struct TextsWritten {
+    pub refused: Refusal,
+    pub platform: usize,
+    pub tasks: usize,
+}
+
+impl TextsWritten {
+    fn short() -> TextsWritten
+        ensures { λ r. ⌜ r ≡ record { refused = tooShort; platform = 0; tasks = 0 } ⌝ }
+    {
+        TextsWritten {
+            refused: Refusal { number: 16, row: 0 },
+            platform: 0,
+            tasks: 0,
+        }
+    }
+}
+
+// Both texts of a table, or neither.
+pub fn write_texts(t: Table, platform: &mut [u8], tasks: &mut [u8]) -> TextsWritten
+    ensures { λ r. ⌜ WroteBoth (platformText (t .platform)) (tasksText t) (now (platform .entry)) (now (tasks .entry)) r (now (platform .exit)) (now (tasks .exit)) ⌝ }
+{
+    let p = t.platform;
+    let numbers = platform_numbers(p);
+    let first = one_room(b"cores,partitions\r\n", numbers, 2, platform.len());
+    if !first.enough {
+        return TextsWritten::short();
+    }
+    let second = tasks_room(t, tasks.len());
+    if !second.enough {
+        return TextsWritten::short();
+    }
+    let a = write_platform(p, platform);
+    let b = write_tasks(t, tasks);
+    TextsWritten {
+        refused: Refusal { number: 0, row: 0 },
+        platform: a.length,
+        tasks: b.length,
+    }
 }

@@ -12,11 +12,12 @@ use Rattle.admission.proofs.Laws.{Amax-over}
 use Rattle.machine.specs.declared.Machine.{Machine}
 use Rattle.machine.specs.Jobs.{waits, running, idleCount}
 use Rattle.machine.specs.Steps.{firstWaiting, fits}
+use Rattle.machine.proofs.Queue.{first-none, first-lowest}
 use Rattle.machine.proofs.StateParts.{GoodState}
 use Rattle.lives.specs.Test.{busyCores, busyCache}
 use Rattle.conduct.specs.Conduct.{FullFor}
 use Rattle.conduct.proofs.Idle.{idle-partitions, running-jobs}
-use Rattle.conduct.proofs.Starting.{Stopped, nobody, blocked, first-none, first-lowest}
+use Rattle.conduct.proofs.Starting.{Stopped, nobody, blocked}
 
 module _ {x : Machine} (g : GoodState x) where
   first-before : (h k : ℕ) → firstWaiting x ≡ suc h → waits x (suc k) ≡ true → h ≤ k

@@ -23,6 +23,7 @@ use Rattle.machine.specs.Jobs.{isIdle, isRunning, noJob, job, runs, running}
 use Rattle.machine.specs.Steps.{forTasks, older, awaiting}
 use Rattle.machine.specs.Tick.{readied}
 use Rattle.machine.proofs.Jobs.{for-past, finishedJob, readiedJob, readied-pass, readied-job, readied-table}
+use Rattle.machine.proofs.Queue.{ended-rests}
 use Rattle.machine.proofs.StateParts.{GoodJob, GoodState, when-idle}
 use Rattle.conduct.proofs.Accepted.{Accepted}
 use Rattle.conduct.proofs.Taken.{taken}
@@ -46,7 +47,7 @@ module _ {p : ℕ} {τ : Task} (row : GoodRow p τ) where
 
   finished-good : (f : Bool) (j : Job) → GoodJob p τ j → (isRunning (j .stage) ≡ true → f ≡ false → older τ j .ran ≢ C τ)
       → GoodJob p τ (finishedJob τ f j)
-  finished-good true j g w = record { age = omega arith; stage = record { rests = record { none = refl; unrun = refl }; old = omega arith } }
+  finished-good true j g w = record { age = omega arith; stage = record { rests = ended-rests (older τ j); old = omega arith } }
   finished-good false j g w = older-good (j .stage) (j .age) (j .ran) (j .held) g (λ e. w e refl)
 
   released-good : (r : Bool) (j : Job) → GoodJob p τ j → (r ≡ true → isIdle (j .stage) ≡ true) → GoodJob p τ (cond r (awaiting j) j)

@@ -4,7 +4,6 @@ use mathlib.Core.Path.{_≡_, refl, sym, _∙_, ap}
 use mathlib.Core.Bool.{Bool, true, false, cond, true≢false}
 use native.Mathlib.Decide.{decLt, ℕ-discrete}
 use native.Mathlib.Omega.{arith}
-use Rattle.maths.proofs.Tasks.{lowest-none, lowest-holds, lowest-first}
 use Rattle.table.specs.Limits.{mostTasks}
 use Rattle.table.specs.Tasks.{τ, A}
 use Rattle.sets.specs.Choice.{choice}
@@ -13,6 +12,7 @@ use Rattle.machine.specs.declared.Machine.{Machine}
 use Rattle.machine.specs.Jobs.{isWaiting, job, waits, runs, idlePartitions}
 use Rattle.machine.specs.Steps.{firstWaiting, fits, begun, start, startFirst, startWaiting}
 use Rattle.machine.proofs.Jobs.{start-other}
+use Rattle.machine.proofs.Queue.{first-task, first-waits, first-lowest}
 use Rattle.machine.proofs.StateParts.{GoodState}
 use Rattle.conduct.proofs.Begin.{waits-not-runs, new-job, start-good}
 
@@ -38,44 +38,37 @@ pub data Stopped (m : Machine) : Type 0 where
 abbrev Enough : Machine → ℕ → Type 0
 Enough m turns = (k : ℕ) → k < m .table .n → waits m (suc k) ≡ true → m .table .n ≤ k + turns
 
--- the first that waits: it is one of tasks 1 to n, it waits, and none before it does; and where there is none, nobody waits
-pub first-none : (m : Machine) → firstWaiting m ≡ 0 → (k : ℕ) → k < m .table .n → waits m (suc k) ≡ false
-first-none m e = lowest-none (waits m) (m .table .n) e
-
 module _ (m : Machine) (i : ℕ) (first : firstWaiting m ≡ suc i) where
   abbrev n : ℕ
   n = m .table .n
 
   in-n : i < n
-  in-n = lowest-holds (waits m) n i first .0
+  in-n = first-task m i first
 
-  first-waits : waits m (suc i) ≡ true
-  first-waits = lowest-holds (waits m) n i first .1
-
-  pub first-lowest : (k : ℕ) → k < i → waits m (suc k) ≡ false
-  first-lowest k l = lowest-first (waits m) n i first k l
+  waiting : waits m (suc i) ≡ true
+  waiting = first-waits m i first
 
   -- after a start who waits waited before, and comes after who started
   still : (k : ℕ) → waits (start m i) (suc k) ≡ true → (waits m (suc k) ≡ true) × (i < k)
   still k w = by (ℕ-discrete k i) (decLt k i)
     where
       by : Dec (k ≡ i) → Dec (k < i) → (waits m (suc k) ≡ true) × (i < k)
-      by (yes e) d = absurd (true≢false (sym (rw e at w) ∙ ap (λ (j : Job). isWaiting (j .stage)) (new-job m i first-waits)))
-      by (no e) (yes d) = absurd (true≢false (sym waited ∙ first-lowest k d))
+      by (yes e) d = absurd (true≢false (sym (rw e at w) ∙ ap (λ (j : Job). isWaiting (j .stage)) (new-job m i waiting)))
+      by (no e) (yes d) = absurd (true≢false (sym waited ∙ first-lowest m i first k d))
         where
           waited : waits m (suc k) ≡ true
           waited = rw (start-other m i k e) at w
       by (no e) (no d) = (rw (start-other m i k e) at w, omega arith)
 
   enough-less : (turns : ℕ) → Enough m (suc turns) → Enough (start m i) turns
-  enough-less turns h k l w = omega (arith, still k w .1, h i in-n first-waits)
+  enough-less turns h k l w = omega (arith, still k w .1, h i in-n waiting)
 
   module _ (before : Machine) (r : Reached before m) (f : fits m (suc i) ≡ true) where
     new-began : Began (job before (suc i)) (job m (suc i)) → Began (job before (suc i)) (job (start m i) (suc i))
     new-began (stayed e) =
         let held = choice (idlePartitions m) (A (τ (m .table) (suc i))) in
-        began held (rw e at first-waits) (new-job m i first-waits ∙ ap (begun held) e)
-    new-began (began h w e) = absurd (true≢false (sym first-waits ∙ ap (λ (j : Job). isWaiting (j .stage)) e))
+        began held (rw e at waiting) (new-job m i waiting ∙ ap (begun held) e)
+    new-began (began h w e) = absurd (true≢false (sym waiting ∙ ap (λ (j : Job). isWaiting (j .stage)) e))
 
     jobs-began : (j : ℕ) → j < n → Began (job before (suc j)) (job (start m i) (suc j))
     jobs-began j l =
@@ -92,7 +85,7 @@ module _ (m : Machine) (i : ℕ) (first : firstWaiting m ≡ suc i) where
         ]
 
     start-reached : Reached before (start m i)
-    start-reached = record { table = r .table; good = start-good m i first-waits (r .good) in-n f; jobs = jobs-began; order = in-order }
+    start-reached = record { table = r .table; good = start-good m i waiting (r .good) in-n f; jobs = jobs-began; order = in-order }
 
 pub record Ended (before now : Machine) : Type 0 where
   pub reached : Reached before now
@@ -104,7 +97,7 @@ none-left m enough = by (firstWaiting m) refl
   where
     by : (k : ℕ) → firstWaiting m ≡ k → k ≡ 0
     by zero e = refl
-    by (suc i) e = absurd (omega (arith, in-n m i e, enough i (in-n m i e) (first-waits m i e)))
+    by (suc i) e = absurd (omega (arith, in-n m i e, enough i (in-n m i e) (waiting m i e)))
 
 ends : (turns : ℕ) (before m : Machine) → Reached before m → Enough m turns → Ended before (startWaiting turns m)
 unfolding startWaiting

@@ -1,4 +1,5 @@
 pub mod Jobs
+pub mod Queue
 pub mod StateParts
 pub mod StateTest
 pub mod StateLoops

@@ -1,4 +1,4 @@
--- test
+-- What a caller learns by the contracts of the three functions is what `Calls` (specs/Calls.antt) asks of the values that they return: each law below is the identity.
 use mathlib.Core.Path.{_≡_}
 use contract.Lifetimes.{Lfts}
 use Rattle.table.specs.declared.Table.{Table}
@@ -13,5 +13,6 @@ use Rattle.machine.proofs.Machine.set_up.Reads as set-up
 quick-contract : (κs : Lfts 0) (t now : Table) (q : QuickAnswer) → quick.Learnt κs (t, tt) q (now, tt) → q ≡ quickAnswer t
 quick-contract κs t now q h = h
 
-set-up-contract : (κs : Lfts 0) (old : Machine) (t : Table) (now : Machine) (then : Table) (r : SetUp) → set-up.Learnt κs (old, (t, tt)) r (now, (then, tt)) → r ≡ setUp old t
-set-up-contract κs old t now then r h = h
+set-up-contract : (κs : Lfts 0) (old was : Machine) (t now : Table) (r : SetUp)
+    → set-up.Learnt κs (old, (t, tt)) r (was, (now, tt)) → r ≡ setUp old t
+set-up-contract κs old was t now r h = h

@@ -6,7 +6,7 @@ use mathlib.Core.List.{List}
 use native.Mathlib.Decide.{decLt}
 use native.Mathlib.Omega.{arith}
 use Rattle.table.specs.declared.Table.{Table}
-use Rattle.table.specs.Tasks.{τ, D}
+use Rattle.table.specs.Tasks.{D}
 use Rattle.lives.specs.Life.{Row, Life, age, idles}
 use Rattle.lives.specs.Style.{Unfinished}
 use Rattle.lives.proofs.Ages.{ends-below-deadline}

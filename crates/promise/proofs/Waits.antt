@@ -6,7 +6,6 @@ use mathlib.Core.List.{List}
 use native.Mathlib.Decide.{ℕ-discrete}
 use native.Mathlib.Omega.{arith}
 use Rattle.table.specs.declared.Table.{Table}
-use Rattle.table.specs.Tasks.{τ, D, C}
 use Rattle.lives.specs.Life.{Life, slack, age, ran, idles, waits, runs}
 use Rattle.lives.specs.Style.{Unfinished}
 use Rattle.lives.proofs.Ages.{waits-below-slack, runs-below-slack}

@@ -3,6 +3,7 @@ pub mod Data
 pub mod Demands
 pub mod Fill
 pub mod First
+pub mod InC
 pub mod Judged
 pub mod Lends
 pub mod Moved

@@ -7,6 +7,7 @@ pub mod InC
 pub mod Judged
 pub mod Lends
 pub mod Moved
+pub mod OfRows
 pub mod Renewed
 pub mod Rows
 pub mod Tables

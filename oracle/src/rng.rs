@@ -6,12 +6,12 @@ impl Rng {
     pub fn new(seed: u64) -> Rng {
         let mut r = Rng((seed ^ 0x9e37_79b9_7f4a_7c15) | 1);
         for _ in 0..16 {
-            r.next();
+            r.bits();
         }
         r
     }
 
-    pub fn next(&mut self) -> u64 {
+    pub fn bits(&mut self) -> u64 {
         let mut x = self.0;
         x ^= x >> 12;
         x ^= x << 25;
@@ -21,14 +21,14 @@ impl Rng {
     }
 
     pub fn word(&mut self) -> u32 {
-        (self.next() >> 32) as u32
+        (self.bits() >> 32) as u32
     }
 
     /// A number from `low` to `high`, both among them.
     pub fn range(&mut self, low: u32, high: u32) -> u32 {
         assert!(low <= high, "an empty range: {low} to {high}");
         let width = u64::from(high) - u64::from(low) + 1;
-        (u64::from(low) + self.next() % width) as u32
+        (u64::from(low) + self.bits() % width) as u32
     }
 
     /// As `range`, with small numbers as likely as large ones.
@@ -40,7 +40,7 @@ impl Rng {
     }
 
     pub fn index(&mut self, length: usize) -> usize {
-        (self.next() % length as u64) as usize
+        (self.bits() % length as u64) as usize
     }
 
     pub fn pick<T: Copy>(&mut self, of: &[T]) -> T {
@@ -60,8 +60,8 @@ mod tests {
     #[test]
     fn the_same_seed_gives_the_same_numbers() {
         let (mut a, mut b) = (Rng::new(7), Rng::new(7));
-        assert!((0..1000).all(|_| a.next() == b.next()));
-        assert_ne!(Rng::new(8).next(), Rng::new(7).next());
+        assert!((0..1000).all(|_| a.bits() == b.bits()));
+        assert_ne!(Rng::new(8).bits(), Rng::new(7).bits());
     }
 
     #[test]

@@ -6,10 +6,12 @@ use native.Mathlib.Omega.{arith}
 use lib.Dec.{lit<}
 use Rattle.maths.specs.Sums.{sum}
 use Rattle.maths.proofs.Sums.{sum-mono, sum-const}
+use Rattle.table.specs.declared.Task.{Task}
 use Rattle.table.specs.declared.Table.{Table}
+use Rattle.table.specs.Limits.{mostCores, mostPartitions, longestPeriod}
 use Rattle.table.specs.Tasks.{M, P, τ, D, T, C, A}
 use Rattle.table.specs.Good.{Good, GoodRow}
-use Rattle.admission.specs.Test.{S, Amax, B, interference, weight, load, limit}
+use Rattle.admission.specs.Test.{S, Amax, B, interferenceIn, interference, weightOf, weight, load, limit}
 
 -- the largest that a task can add to a load: 1024 × 65537 × 65535
 abbrev pub mostTerm : ℕ
@@ -18,6 +20,26 @@ mostTerm = 4398046510080
 pub Amax-zero : (t : Table) → Amax t 0 ≡ 0
 unfolding Amax
 Amax-zero t = refl
+
+-- what one row can come to, in a window of s ticks and for a task whose B is b
+module _ {row : Task} (g : GoodRow mostPartitions row) where
+  pub jobs-le : {s : ℕ} → s ≤ longestPeriod → s / T row + 2 ≤ 65537
+  jobs-le {s} l = omega (arith, div-le-self s (T row))
+
+  pub interference-le : {s : ℕ} → s ≤ longestPeriod → interferenceIn s row ≤ 4294967295
+  interference-le l = mul-le-mul {n₂ = 65537} {m₂ = 65535} (jobs-le l) (omega arith)
+
+  pub share-le : {m : ℕ} → m ≤ mostCores → m * A row ≤ 1024
+  share-le l = mul-le-mul {n₂ = 16} {m₂ = 64} l (g .room)
+
+  pub weight-le : {m b : ℕ} → m ≤ mostCores → b ≤ 65 → weightOf m b (A row) ≤ 1024
+  weight-le l h = max-le (omega arith) (share-le l)
+
+  pub term-le : {m b s : ℕ} → m ≤ mostCores → b ≤ 65 → s ≤ longestPeriod → weightOf m b (A row) * interferenceIn s row ≤ mostTerm
+  term-le l h w = mul-le-mul {n₂ = 1024} {m₂ = 4294967295} (weight-le l h) (interference-le w)
+
+pub limit-le : {m b s : ℕ} → m ≤ mostCores → b ≤ 65 → s ≤ longestPeriod → m * b * s ≤ 68156400
+limit-le l h w = mul-le-mul {n₂ = 1040} {m₂ = 65535} (mul-le-mul {n₂ = 16} {m₂ = 65} l h) w
 
 module _ {t : Table} (g : Good t) where
   pub Amax-le : (k : ℕ) → k ≤ t .n → Amax t k ≤ P t
@@ -29,43 +51,36 @@ module _ {t : Table} (g : Good t) where
   unfolding Amax
   Amax-suc k = refl
 
+  pub row-good : (i : ℕ) → i < t .n → GoodRow mostPartitions (τ t (suc i))
+  row-good i l =
+      let r = g .row i l in
+      record {
+        period = r .period;
+        short = r .short;
+        runs = r .runs;
+        slack = r .slack;
+        deadline = r .deadline;
+        room = le-trans (r .room) (g .partitions);
+      }
+
   module _ (k : ℕ) (lk : k < t .n) where
-    pub S-le : S t (suc k) ≤ 65535
+    pub S-le : S t (suc k) ≤ longestPeriod
     S-le = let r = g .row k lk in omega arith
 
     pub B-le : B t (suc k) ≤ 65
     B-le = omega (arith, g .partitions)
 
-    module _ (i : ℕ) (li : i < t .n) where
-      pub jobs-le : S t (suc k) / T (τ t (suc i)) + 2 ≤ 65537
-      jobs-le = omega (arith, div-le-self (S t (suc k)) (T (τ t (suc i))), S-le)
-
-      pub interference-le : interference t (suc k) (suc i) ≤ 4294967295
-      unfolding interference
-      interference-le = let r = g .row i li in mul-le-mul {n₂ = 65537} {m₂ = 65535} jobs-le (omega arith)
-
-      pub share-le : M t * A (τ t (suc i)) ≤ 1024
-      share-le = mul-le-mul {n₂ = 16} {m₂ = 64} (g .cores) (le-trans (g .row i li .room) (g .partitions))
-
-      pub weight-le : weight t (suc k) (suc i) ≤ 1024
-      weight-le = max-le (omega (arith, B-le)) share-le
-
-      pub term-le : weight t (suc k) (suc i) * interference t (suc k) (suc i) ≤ mostTerm
-      term-le = mul-le-mul {n₂ = 1024} {m₂ = 4294967295} weight-le interference-le
-
     pub load-small : load t (suc k) < 2 ^ 62
-    unfolding load
+    unfolding load interference
     load-small =
         omega (
           arith,
           g .few,
           sum-const mostTerm (t .n),
-          sum-mono (λ i. weight t (suc k) (suc i) * interference t (suc k) (suc i)) (λ i. mostTerm) (t .n) term-le,
+          sum-mono (λ i. weight t (suc k) (suc i) * interference t (suc k) (suc i)) (λ i. mostTerm) (t .n)
+              (λ i l. term-le (row-good i l) (g .cores) B-le S-le),
         )
 
-    pub limit-le : limit t (suc k) ≤ 68156400
-    unfolding limit
-    limit-le = mul-le-mul {n₂ = 1040} {m₂ = 65535} (mul-le-mul {n₂ = 16} {m₂ = 65} (g .cores) B-le) S-le
-
     pub limit-small : limit t (suc k) < 2 ^ 62
-    limit-small = lt-of-le-of-lt limit-le (lit< tt)
+    unfolding limit
+    limit-small = lt-of-le-of-lt (limit-le (g .cores) B-le S-le) (lit< tt)

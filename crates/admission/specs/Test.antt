@@ -23,9 +23,13 @@ Amax t (suc k) = max (Amax t k) (A (τ t (suc k)))
 abbrev pub B : Table → ℕ → ℕ
 B t k = P t - Amax t k + 1
 
--- interference of task i on task k, I_k^i = (⌊S_k / T_i⌋ + 2) · C_i (equation 3)
+-- the most that a task τ runs in a window of s ticks, (⌊s / T⌋ + 2) · C (equation 3)
+abbrev pub interferenceIn : ℕ → Task → ℕ
+interferenceIn s τ = (s / T τ + 2) * C τ
+
+-- interference of task i on task k, I_k^i, in k's slack
 unfoldable pub interference : Table → ℕ → ℕ → ℕ
-interference t k i = (S t k / T (τ t i) + 2) * C (τ t i)
+interference t k i = interferenceIn (S t k) (τ t i)
 
 -- max(1 / M, A_i / B) of theorem 2, times M × B, of a task that asks for a partitions
 abbrev pub weightOf : ℕ → ℕ → ℕ → ℕ

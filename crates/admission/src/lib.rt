@@ -1,11 +1,12 @@
 // The admission answers: the second test of the report, task by task, with exact margins.
 ghost use mathlib.Core.Path.{_≡_};
-ghost use Prim.Native.Nat.{ℕ, suc, _+_, _-_, _*_, _^_, _<_, _≤_};
+ghost use Prim.Native.Nat.{ℕ, suc, _+_, _-_, _*_, _^_, _<_, _≤_, max};
 ghost use mathlib.Core.Bool.{cond, not};
 ghost use Rattle.maths.specs.Tasks.{orElse};
-ghost use Rattle.table.specs.Good.{Good};
-ghost use Rattle.table.specs.Limits.{mostTasks};
-ghost use Rattle.admission.specs.Test.{S, Amax, B, interference, weight, load, limit, less, margin, above0, firstFailing};
+ghost use Rattle.table.specs.Good.{Good, GoodRow};
+ghost use Rattle.table.specs.Limits.{mostTasks, mostCores, mostPartitions, longestPeriod};
+ghost use Rattle.table.specs.Tasks.{D, C};
+ghost use Rattle.admission.specs.Test.{interferenceIn, weightOf, less, above0, firstFailing};
 ghost use Rattle.admission.specs.Answers.{judgement, fullAnswer, quickAnswer};
 use table::Cores;
 use table::Partitions;
@@ -21,6 +22,13 @@ pub struct FullAnswer {
     pub margins: [i64; Table::MOST],
 }
 
+// Of one task: Amax and B, counts of partitions, and its slack.
+struct Measures {
+    most: Partitions,
+    b: Partitions,
+    s: u32,
+}
+
 struct Judged {
     margins: [i64; Table::MOST],
     first: usize,
@@ -33,66 +41,39 @@ pub struct QuickAnswer {
     pub first: usize,
 }
 
-// Slack of task k + 1.
-fn slack(t: Table, k: usize) -> u32
-    requires { ⌜ (Good t) × (k < t .n) ⌝ }
-    ensures { λ r. ⌜ r ≡ S t (suc k) ⌝ }
+// Equation 3, of a row in a window of s ticks.
+fn interferes(s: u32, row: Task) -> u64
+    requires { ⌜ (s ≤ longestPeriod) × GoodRow mostPartitions row ⌝ }
+    ensures { λ r. ⌜ r ≡ interferenceIn s row ⌝ }
 {
-    let row = t.rows[k];
-    row.d - row.c
-}
-
-// Equation 3, for tasks k + 1 and i + 1.
-fn interferes(t: Table, k: usize, i: usize) -> u64
-    requires { ⌜ (Good t) × (k < t .n) × (i < t .n) ⌝ }
-    ensures { λ r. ⌜ r ≡ interference t (suc k) (suc i) ⌝ }
-{
-    let row = t.rows[i];
-    let jobs = slack(t, k) / row.t + 2;
+    let jobs = s / row.t + 2;
     (jobs as u64) * (row.c as u64)
 }
 
-// The weight of task i + 1 in the load of task k + 1, whose B is b.
-fn weighs(t: Table, k: usize, b: u32, i: usize) -> u32
-    requires { ⌜ (Good t) × (k < t .n) × (i < t .n) × (b ≡ B t (suc k)) ⌝ }
-    ensures { λ r. ⌜ r ≡ weight t (suc k) (suc i) ⌝ }
+// The weight of a row in the load of a task whose B is b.
+fn weighs(m: Cores, b: Partitions, row: Task) -> u32
+    requires { ⌜ (m .0 ≤ mostCores) × GoodRow mostPartitions row ⌝ }
+    ensures { λ r. ⌜ r ≡ weightOf (m .0) (b .0) (row .a .0) ⌝ }
 {
-    let row = t.rows[i];
-    let share = t.platform.cores.0 * row.a.0;
-    if share < b { b } else { share }
+    let share = m.0 * row.a.0;
+    if share < b.0 { b.0 } else { share }
 }
 
-// What task i + 1 adds to the load of task k + 1, whose B is b.
-fn term(t: Table, k: usize, b: u32, i: usize) -> u64
-    requires { ⌜ (Good t) × (k < t .n) × (i < t .n) × (b ≡ B t (suc k)) ⌝ }
-    ensures { λ r. ⌜ r ≡ weight t (suc k) (suc i) * interference t (suc k) (suc i) ⌝ }
+// What a row adds to the load of a task whose B is b and whose slack is s.
+fn term(m: Cores, b: Partitions, s: u32, row: Task) -> u64
+    requires { ⌜ (m .0 ≤ mostCores) × (b .0 ≤ 65) × (s ≤ longestPeriod) × GoodRow mostPartitions row ⌝ }
+    ensures { λ r. ⌜ r ≡ weightOf (m .0) (b .0) (row .a .0) * interferenceIn s row ⌝ }
 {
-    let w = weighs(t, k, b, i);
-    (w as u64) * interferes(t, k, i)
+    let w = weighs(m, b, row);
+    (w as u64) * interferes(s, row)
 }
 
-// The load of task k + 1, whose B is b.
-fn loaded(t: Table, k: usize, b: u32) -> u64
-    requires { ⌜ (Good t) × (k < t .n) × (b ≡ B t (suc k)) ⌝ }
-    ensures { λ r. ⌜ r ≡ load t (suc k) ⌝ }
+// The limit of a task whose B is b and whose slack is s.
+fn limited(m: Cores, b: Partitions, s: u32) -> u64
+    requires { ⌜ (m .0 ≤ mostCores) × (b .0 ≤ 65) × (s ≤ longestPeriod) ⌝ }
+    ensures { λ r. ⌜ r ≡ m .0 * b .0 * s ⌝ }
 {
-    let n = t.n;
-    let mut sum: u64 = 0;
-    let mut i: usize = 0;
-    while i < n {
-        sum += term(t, k, b, i);
-        i += 1;
-    }
-    sum
-}
-
-// The limit of task k + 1, whose B is b.
-fn limited(t: Table, k: usize, b: u32) -> u64
-    requires { ⌜ (Good t) × (k < t .n) × (b ≡ B t (suc k)) ⌝ }
-    ensures { λ r. ⌜ r ≡ limit t (suc k) ⌝ }
-{
-    let m = t.platform.cores.0;
-    (m as u64) * (b as u64) * (slack(t, k) as u64)
+    (m.0 as u64) * (b.0 as u64) * (s as u64)
 }
 
 // The exact difference, below, at and above 0.
@@ -103,31 +84,24 @@ fn difference(a: u64, b: u64) -> i64
     (a as i64) - (b as i64)
 }
 
-// The margin of task k + 1, whose B is b.
-fn spare(t: Table, k: usize, b: u32) -> i64
-    requires { ⌜ (Good t) × (k < t .n) × (b ≡ B t (suc k)) ⌝ }
-    ensures { λ r. ⌜ r ≡ margin t (suc k) ⌝ }
+// Amax of task k + 1, from its row and from the Amax of task k.
+fn largest(row: Task, most: Partitions) -> Partitions
+    ensures { λ r. ⌜ r .0 ≡ max (most .0) (row .a .0) ⌝ }
 {
-    let l = limited(t, k, b);
-    let x = loaded(t, k, b);
-    difference(l, x)
+    if most.0 < row.a.0 { row.a } else { most }
 }
 
-// Amax of task k + 1, from that of task k.
-fn largest(t: Table, k: usize, most: u32) -> u32
-    requires { ⌜ (Good t) × (k < t .n) × (most ≡ Amax t k) ⌝ }
-    ensures { λ r. ⌜ r ≡ Amax t (suc k) ⌝ }
+// Amax, B and S of task k + 1 on p partitions, from its row and from the Amax of task k.
+fn measured(p: Partitions, most: Partitions, row: Task) -> Measures
+    requires { ⌜ (most .0 ≤ p .0) × (p .0 ≤ mostPartitions) × GoodRow (p .0) row ⌝ }
+    ensures { λ r. ⌜ (r .most .0 ≡ max (most .0) (row .a .0)) × (r .b .0 ≡ p .0 - max (most .0) (row .a .0) + 1) × (r .s ≡ D row - C row) ⌝ }
 {
-    let row = t.rows[k];
-    if most < row.a.0 { row.a.0 } else { most }
-}
-
-// B of task k + 1, from its Amax.
-fn blocking(t: Table, k: usize, most: u32) -> u32
-    requires { ⌜ (Good t) × (k < t .n) × (most ≡ Amax t (suc k)) ⌝ }
-    ensures { λ r. ⌜ r ≡ B t (suc k) ⌝ }
-{
-    t.platform.partitions.0 - most + 1
+    let most = largest(row, most);
+    Measures {
+        most: most,
+        b: Partitions(p.0 - most.0 + 1),
+        s: row.d - row.c,
+    }
 }
 
 // The first failing task of tasks 1 to k + 1, from that of tasks 1 to k and the margin of task k + 1.
@@ -150,14 +124,23 @@ fn judge(t: Table) -> Judged
     ensures { λ r. ⌜ r ≡ judgement t ⌝ }
 {
     let n = t.n;
+    let m = t.platform.cores;
+    let p = t.platform.partitions;
     let mut margins = [0i64; Table::MOST];
     let mut first: usize = 0;
-    let mut most: u32 = 0;
+    let mut most = Partitions(0);
     let mut k: usize = 0;
     while k < n {
-        most = largest(t, k, most);
-        let b = blocking(t, k, most);
-        let margin = spare(t, k, b);
+        let x = measured(p, most, t.rows[k]);
+        most = x.most;
+        let mut load: u64 = 0;
+        let mut i: usize = 0;
+        while i < n {
+            load += term(m, x.b, x.s, t.rows[i]);
+            i += 1;
+        }
+        let l = limited(m, x.b, x.s);
+        let margin = difference(l, load);
         margins[k] = margin;
         first = first_with(first, k, margin);
         k += 1;
@@ -174,18 +157,20 @@ fn first_failing(t: Table) -> usize
     ensures { λ r. ⌜ r ≡ firstFailing t ⌝ }
 {
     let n = t.n;
+    let m = t.platform.cores;
+    let p = t.platform.partitions;
     let mut first: usize = 0;
-    let mut most: u32 = 0;
+    let mut most = Partitions(0);
     let mut k: usize = 0;
     'tasks: while k < n {
-        most = largest(t, k, most);
-        let b = blocking(t, k, most);
-        let l = limited(t, k, b);
-        let mut sum: u64 = 0;
+        let x = measured(p, most, t.rows[k]);
+        most = x.most;
+        let l = limited(m, x.b, x.s);
+        let mut load: u64 = 0;
         let mut i: usize = 0;
         while i < n {
-            sum += term(t, k, b, i);
-            if l <= sum {
+            load += term(m, x.b, x.s, t.rows[i]);
+            if l <= load {
                 first = k + 1;
                 break 'tasks;
             }

@@ -1,6 +1,6 @@
 -- What it says of each task that none of refusals 14 and 9 to 13 is given, and what it says that 13 is.
 use Prim.Native.Nat.{ℕ, zero, suc, _≤_}
-use mathlib.Core.Path.{_≡_, refl, sym, _∙_}
+use mathlib.Core.Path.{_≡_, refl, sym, _∙_, ap}
 use mathlib.Core.Bool.{Bool, true, false, cond, not, _&&_, _||_, true≢false}
 use mathlib.Core.List.{List, [], _∷_}
 use mathlib.Core.Logic.{_≢_}
@@ -10,17 +10,15 @@ use lib.Dec.{eqb}
 use Rattle.maths.specs.Rules.{Rule, rule}
 use Rattle.maths.specs.Tasks.{Each, lowest}
 use Rattle.maths.proofs.Tasks.{each, lowest-none, lowest-holds}
-use Rattle.table.specs.declared.Task.{Task}
+use Rattle.table.specs.declared.Refusal.{Refusal}
 use Rattle.table.specs.Limits.{mostTasks}
 use Rattle.table.specs.Tasks.{τ, T, C}
 use Rattle.sets.specs.TaskSets.{hasTask}
-use Rattle.machine.specs.declared.Job.{Job}
 use Rattle.machine.specs.declared.Machine.{Machine}
-use Rattle.machine.specs.Jobs.{isIdle, isRunning, job, idles, runs}
+use Rattle.machine.specs.Jobs.{job, idles, runs}
 use Rattle.machine.specs.Conditions.{goodState}
-use Rattle.machine.specs.Steps.{older, passed, finish}
+use Rattle.machine.specs.Steps.{passed, finish}
 use Rattle.machine.specs.Tick.{tickRules, firstGiven, tickRefusal, accepted}
-use Rattle.machine.proofs.Jobs.{finishedJob, passed-job, finished-job}
 
 -- none of 9 to 12 is given: refusals are tried in that order
 pub record Before13 (m : Machine) (released finished : ℕ) : Type 0 where
@@ -47,16 +45,20 @@ later r rs n h e = by (eqb (lowest mostTasks (r .given)) 0) refl e
     by true z q = (eqb-true _ 0 z, q)
     by false z q = absurd (h q)
 
-passed-over : (r : Rule ℕ) → lowest mostTasks (r .given) ≡ 0 → firstGiven (r ∷ []) .number ≡ 0
+pub passed-over : (r : Rule ℕ) (rs : List (Rule ℕ)) → lowest mostTasks (r .given) ≡ 0 → firstGiven (r ∷ rs) ≡ firstGiven rs
 unfolding firstGiven
-passed-over r e = rw e
+passed-over r rs e = rw e
+
+pub none-given : firstGiven [] .number ≡ 0
+unfolding firstGiven
+none-given = refl
 
 -- a rule that is given of no task
 module _ (f : ℕ → Bool) (none : lowest mostTasks f ≡ 0) where
   of-none : Each mostTasks (λ k. f k ≡ false)
   of-none = each mostTasks (λ k. f k ≡ false) (lowest-none f mostTasks none)
 
-none-of : (f : ℕ → Bool) → Each mostTasks (λ k. f k ≡ false) → lowest mostTasks f ≡ 0
+pub none-of : (f : ℕ → Bool) → Each mostTasks (λ k. f k ≡ false) → lowest mostTasks f ≡ 0
 none-of f no-one = by (lowest mostTasks f) refl
   where
     by : (k : ℕ) → lowest mostTasks f ≡ k → k ≡ 0
@@ -83,6 +85,9 @@ fails : (a b : Bool) → (a ≡ true → b ≡ true) → a && not b ≡ false
 fails true b h = rw (h refl)
 fails false b h = refl
 
+abbrev rule13 : Machine → ℕ → ℕ → Rule ℕ
+rule13 m R F = rule 13 (λ k. hasTask R k && not (idles (finish F (passed m)) k))
+
 -- none of 9 to 12 and not 14
 abbrev Other : ℕ → Type 0
 Other n = (n ≢ 9) × (n ≢ 10) × (n ≢ 11) × (n ≢ 12) × (n ≢ 14)
@@ -91,7 +96,7 @@ module _ (m : Machine) (R F : ℕ) where
   -- the rules before 13 are given of no task, and 13 has the last word
   record Tried (n : ℕ) : Type 0 where
     before : Before13 m R F
-    last : firstGiven (rule 13 (λ k. hasTask R k && not (idles (finish F (passed m)) k)) ∷ []) .number ≡ n
+    last : firstGiven (rule13 m R F ∷ []) .number ≡ n
 
   tried : (n : ℕ) → Other n → tickRefusal m R F .number ≡ n → Tried n
   unfolding tickRefusal tickRules
@@ -128,24 +133,5 @@ module _ (m : Machine) (R F : ℕ) where
   pub never-13 : (Before13 m R F → Each mostTasks (λ k. hasTask R k ≡ true → idles (finish F (passed m)) k ≡ true)) → tickRefusal m R F .number ≢ 13
   never-13 idle e =
       let all = tried 13 (omega arith) e in
-      let none : firstGiven (rule 13 (λ k. hasTask R k && not (idles (finish F (passed m)) k)) ∷ []) .number ≡ 0 =
-      passed-over _ (none-of _ (λ k l h. fails _ _ (idle (all .before) k l h))) in
-      omega (arith, all .last)
-
--- Of a task τ and its job j, finished and released as f and r say: that none of 10 to 13 is given.
-pub record Taken (τ : Task) (r f : Bool) (j : Job) : Type 0 where
-  pub wasRunning : f ≡ true → isRunning (j .stage) ≡ true
-  pub notOver : isRunning (j .stage) ≡ true → f ≡ false → older τ j .ran ≢ C τ
-  pub due : r ≡ true → T τ ≤ older τ j .age
-  pub free : r ≡ true → isIdle (finishedJob τ f j .stage) ≡ true
-
-pub taken : (m : Machine) (R F : ℕ) → m .table .n ≤ mostTasks → Accepted m R F
-    → Each (m .table .n) (λ k. Taken (τ (m .table) k) (hasTask R k) (hasTask F k) (job m k))
-taken m R F few a k l h =
-    let in-32 : k ≤ mostTasks = omega arith in
-    record {
-      wasRunning = a .before .ran k l in-32;
-      notOver = λ p q. rw (passed-job m k l h in-32) at (a .before .over k l in-32 p q);
-      due = λ p. rw (passed-job m k l h in-32) at (a .before .due k l in-32 p);
-      free = λ p. rw (finished-job m k l h in-32 F) at (a .free k l in-32 p);
-    }
+      let over = passed-over (rule13 m R F) [] (none-of _ (λ k l h. fails _ _ (idle (all .before) k l h))) in
+      omega (arith, all .last, ap (λ (r : Refusal). r .number) over, none-given)

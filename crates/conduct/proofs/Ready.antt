@@ -24,7 +24,8 @@ use Rattle.machine.specs.Steps.{forTasks, older, awaiting}
 use Rattle.machine.specs.Tick.{readied}
 use Rattle.machine.proofs.Jobs.{for-past, finishedJob, readiedJob, readied-pass, readied-job, readied-table}
 use Rattle.machine.proofs.StateParts.{GoodJob, GoodState, when-idle}
-use Rattle.conduct.proofs.Accepted.{Accepted, taken}
+use Rattle.conduct.proofs.Accepted.{Accepted}
+use Rattle.conduct.proofs.Taken.{taken}
 use Rattle.conduct.proofs.Lives.{one}
 
 abbrev jobOf : Stage → ℕ → ℕ → ℕ → Job

@@ -4,7 +4,7 @@ use mathlib.Core.Path.{_≡_, refl, sym, _∙_, ap}
 use mathlib.Core.Bool.{Bool, true, false, cond, true≢false}
 use native.Mathlib.Decide.{decLt, ℕ-discrete}
 use native.Mathlib.Omega.{arith}
-use Rattle.maths.proofs.Tasks.{lowest-holds, lowest-first}
+use Rattle.maths.proofs.Tasks.{lowest-none, lowest-holds, lowest-first}
 use Rattle.table.specs.Limits.{mostTasks}
 use Rattle.table.specs.Tasks.{τ, A}
 use Rattle.sets.specs.Choice.{choice}
@@ -38,6 +38,10 @@ pub data Stopped (m : Machine) : Type 0 where
 abbrev Enough : Machine → ℕ → Type 0
 Enough m turns = (k : ℕ) → k < m .table .n → waits m (suc k) ≡ true → m .table .n ≤ k + turns
 
+-- the first that waits: it is one of tasks 1 to n, it waits, and none before it does; and where there is none, nobody waits
+pub first-none : (m : Machine) → firstWaiting m ≡ 0 → (k : ℕ) → k < m .table .n → waits m (suc k) ≡ false
+first-none m e = lowest-none (waits m) (m .table .n) e
+
 module _ (m : Machine) (i : ℕ) (first : firstWaiting m ≡ suc i) where
   abbrev n : ℕ
   n = m .table .n
@@ -48,13 +52,16 @@ module _ (m : Machine) (i : ℕ) (first : firstWaiting m ≡ suc i) where
   first-waits : waits m (suc i) ≡ true
   first-waits = lowest-holds (waits m) n i first .1
 
+  pub first-lowest : (k : ℕ) → k < i → waits m (suc k) ≡ false
+  first-lowest k l = lowest-first (waits m) n i first k l
+
   -- after a start who waits waited before, and comes after who started
   still : (k : ℕ) → waits (start m i) (suc k) ≡ true → (waits m (suc k) ≡ true) × (i < k)
   still k w = by (ℕ-discrete k i) (decLt k i)
     where
       by : Dec (k ≡ i) → Dec (k < i) → (waits m (suc k) ≡ true) × (i < k)
       by (yes e) d = absurd (true≢false (sym (rw e at w) ∙ ap (λ (j : Job). isWaiting (j .stage)) (new-job m i first-waits)))
-      by (no e) (yes d) = absurd (true≢false (sym waited ∙ lowest-first (waits m) n i first k d))
+      by (no e) (yes d) = absurd (true≢false (sym waited ∙ first-lowest k d))
         where
           waited : waits m (suc k) ≡ true
           waited = rw (start-other m i k e) at w

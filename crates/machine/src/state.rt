@@ -54,6 +54,7 @@ impl Job {
         }
     }
 
+    // An entry past n.
     fn is_none(self) -> bool
         ensures { λ r. ⌜ r ≡ isNoJob self ⌝ }
     {
@@ -70,6 +71,7 @@ impl Job {
         self.held == 0
     }
 
+    // It holds no partition and has run 0, as is asked of a waiting job.
     fn has_nothing(self) -> bool
         ensures { λ r. ⌜ r ≡ hasNothing self ⌝ }
     {
@@ -79,6 +81,7 @@ impl Job {
         self.ran == 0
     }
 
+    // What is asked of an idle job.
     fn idles_well(self) -> bool
         ensures { λ r. ⌜ r ≡ (hasNothing self && leb 1 (self .age)) ⌝ }
     {
@@ -88,6 +91,7 @@ impl Job {
         1 <= self.age
     }
 
+    // What is asked of a running job, of a task whose C is 1 or more, on a cache of p partitions.
     fn runs_well(self, p: Partitions, task: Task) -> bool
         requires { ⌜ (p .0 ≤ mostPartitions) × (1 ≤ C task) ⌝ }
         ensures { λ r. ⌜ r ≡ goodStage (p .0) task self Stage.Running ⌝ }
@@ -121,6 +125,7 @@ impl Job {
     }
 }
 
+// An entry past n.
 fn is_no_task(t: Task) -> bool
     ensures { λ r. ⌜ r ≡ isNoTask t ⌝ }
 {
@@ -275,7 +280,7 @@ impl Machine {
 }
 
 // How many jobs run.
-pub fn count_running(m: Machine) -> u32
+pub(crate) fn count_running(m: Machine) -> u32
     requires { ⌜ m .table .n ≤ mostTasks ⌝ }
     ensures { λ r. ⌜ r ≡ running m ⌝ }
 {
@@ -293,7 +298,7 @@ pub fn count_running(m: Machine) -> u32
 }
 
 // The partitions that some job holds.
-pub fn union_held(m: Machine) -> u64
+pub(crate) fn union_held(m: Machine) -> u64
     requires { ⌜ m .table .n ≤ mostTasks ⌝ }
     ensures { λ r. ⌜ r ≡ busy m ⌝ }
 {

@@ -7,3 +7,4 @@ pub mod Signed
 pub mod Tasks
 pub mod Determined
 pub mod Arrays
+pub mod Padded

@@ -10,17 +10,10 @@ abbrev pub led : ℕ → Life → Bool → Bool → Bool → Life
 led top x f r s = start s (release r (finish f (rise top x)))
 
 module _ (row : Row) (top : ℕ) where
-  -- released: its job is there, of age 0, and waits unless it starts
+  -- released: its job is of age 0
   pub comes-age : (x : Life) (f s : Bool) → age (led top x f true s) ≡ 0
   comes-age x f true = refl
   comes-age x f false = refl
-
-  pub comes : (x : Life) (f s : Bool) → idles (led top x f true s) ≡ 0
-  comes x f true = refl
-  comes x f false = refl
-
-  pub comes-waiting : (x : Life) (f : Bool) → waits (led top x f true false) ≡ 1
-  comes-waiting x f = refl
 
   -- waiting and not started: it waits on
   pub waits-on : (x : Life) (f r : Bool) → Allowed row (rise top x) f r false → waits x ≡ 1 → waits (led top x f r false) ≡ 1
@@ -29,18 +22,6 @@ module _ (row : Row) (top : ℕ) where
   waits-on (waiting a) false true h w = absurd (omega (arith, h .free refl))
   waits-on (waiting a) false false h w = refl
   waits-on (running a n) f r h w = absurd (omega arith)
-
-  -- there and not finished: it is still there
-  pub stays : (x : Life) (r s : Bool) → idles x ≡ 0 → idles (led top x false r s) ≡ 0
-  stays (idle a) r s w = absurd (omega arith)
-  stays (waiting a) true true w = refl
-  stays (waiting a) true false w = refl
-  stays (waiting a) false true w = refl
-  stays (waiting a) false false w = refl
-  stays (running a n) true true w = refl
-  stays (running a n) true false w = refl
-  stays (running a n) false true w = refl
-  stays (running a n) false false w = refl
 
   -- there after the tick and not released in it: it was there before, and is not finished
   pub was : (x : Life) (f s : Bool) → Allowed row (rise top x) f false s → idles (led top x f false s) ≡ 0 → (idles x ≡ 0) × (f ≡ false)

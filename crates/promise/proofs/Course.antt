@@ -8,21 +8,20 @@ use Rattle.maths.specs.Tasks.{Each}
 use Rattle.maths.proofs.Tasks.{each}
 use Rattle.table.specs.declared.Table.{Table}
 use Rattle.table.specs.Limits.{mostTasks}
-use Rattle.table.specs.Tasks.{M, τ, T, A}
-use Rattle.admission.specs.Test.{B}
+use Rattle.table.specs.Tasks.{τ, T}
 use Rattle.machine.specs.Jobs.{job}
 use Rattle.machine.specs.Fresh.{trimmed}
 use Rattle.machine.proofs.StateFresh.{fresh-job}
-use Rattle.lives.specs.Life.{Row, Life, idle, waits, runs, rise, Allowed, Next, Good, OnTime}
+use Rattle.lives.specs.Life.{Row, Life, idle, rise, Allowed, Good, OnTime}
 use Rattle.lives.specs.Style.{Style, Course}
-use Rattle.lives.specs.Test.{Full}
 use Rattle.lives.proofs.Base as base
 use Rattle.conduct.specs.Lives.{row, life}
-use Rattle.promise.specs.Sequences.{Report, Sequence, sequence, count, tickAt, state, releases, finishes, starts}
+use Rattle.conduct.proofs.Laws.{next}
+use Rattle.promise.specs.Sequences.{Report, Sequence, sequence, count, state, releases, finishes, starts}
 use Rattle.promise.specs.Promise.{Admitted}
 use Rattle.promise.proofs.Bits.{led}
 use Rattle.promise.proofs.Test.{same-task, good-table, admitted}
-use Rattle.promise.proofs.States.{follows, sound, allowed, leads, full-after}
+use Rattle.promise.proofs.States.{conducts}
 
 -- the numbers of task k in the machine's table
 abbrev pub rows : Table → ℕ → Row
@@ -45,17 +44,10 @@ module _ (t : Table) (a : Admitted t) (xs : List Report) where
   -- tick i: what it says of task k, and what it makes of k's life
   module _ (i : ℕ) (l : i < count (sequence t xs)) where
     pub says : Each (t .n) (λ k. Allowed (rows t k) (rise (tops t k) (lives s i k)) (finishes s i k) (releases s i k) (starts s i k))
-    says = allowed t (state s i) (tickAt s i) (sound t a xs i (omega arith) .same) (follows t a xs i l)
+    says = conducts t a xs i l .allows
 
     pub does : Each (t .n) (λ k. led (tops t k) (lives s i k) (finishes s i k) (releases s i k) (starts s i k) ≡ lives s (suc i) k)
-    does = leads t (state s i) (tickAt s i) (sound t a xs i (omega arith) .same) (follows t a xs i l)
-
-    next : Each (t .n) (λ k. Next (rows t k) (tops t k) (lives s i k) (lives s (suc i) k))
-    next k p q =
-        record { finished = finishes s i k; released = releases s i k; started = starts s i k; allowed = says k p q; lands = does k p q }
-
-    full : Each (t .n) (λ k. waits (lives s (suc i) k) ≡ 1 → Full (t .n) (M t) (B (trimmed t) k) (λ j. A (τ (trimmed t) j)) (λ j. runs (lives s (suc i) j)))
-    full = full-after t (state s i) (tickAt s i) (sound t a xs i (omega arith) .same) (follows t a xs i l)
+    does = conducts t a xs i l .moves
 
   first : Each (t .n) (λ k. lives s 0 k ≡ idle (rows t k .T))
   first =
@@ -67,7 +59,7 @@ module _ (t : Table) (a : Admitted t) (xs : List Report) where
   style = base.second-test (tops t) (admitted t a) (λ k p q. le-refl (tops t k))
 
   pub course : Course style (lives s) (count s)
-  course = base.course (tops t) (admitted t a) (λ k p q. le-refl (tops t k)) (lives s) (count s) first next full
+  course = base.course (tops t) (admitted t a) (λ k p q. le-refl (tops t k)) (lives s) (count s) first (λ i l. next (conducts t a xs i l)) (λ i l. conducts t a xs i l .full)
 
   pub on-time : (i : ℕ) → i ≤ count s → Each (t .n) (λ k. Good (rows t k) (lives s i k) × OnTime (rows t k) (lives s i k))
-  on-time = base.base (tops t) (admitted t a) (λ k p q. le-refl (tops t k)) (lives s) (count s) first next full
+  on-time = base.base (tops t) (admitted t a) (λ k p q. le-refl (tops t k)) (lives s) (count s) first (λ i l. next (conducts t a xs i l)) (λ i l. conducts t a xs i l .full)

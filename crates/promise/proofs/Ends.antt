@@ -11,7 +11,7 @@ use Rattle.lives.specs.Life.{Row, Life, age, idles}
 use Rattle.lives.specs.Style.{Unfinished}
 use Rattle.lives.proofs.Ages.{ends-below-deadline}
 use Rattle.promise.specs.Sequences.{Report, Sequence, sequence, count, releases, finishes, starts}
-use Rattle.promise.specs.Promise.{Admitted, Finished}
+use Rattle.promise.specs.Promise.{InDeadline, Finished, Admitted}
 use Rattle.promise.proofs.Bits.{comes-age, was, finishes-there}
 use Rattle.promise.proofs.Course.{rows, tops, lives, same-row, says, does, course}
 
@@ -73,7 +73,7 @@ module _ (t : Table) (a : Admitted t) (xs : List Report) (k : ℕ) (p : 1 ≤ k)
         since = λ d m. j .there (suc i + d) (omega arith) (omega (arith, j .part .later));
       }
 
-  pub ends-short : (j : ℕ) → j < count s → finishes s j k ≡ true → (i : ℕ) × (Finished s k i j) × (j - i < D (τ t k))
+  pub ends-short : (j : ℕ) → j < count s → finishes s j k ≡ true → (i : ℕ) × (Finished s k i j) × InDeadline t k (j - i)
   ends-short j l f =
       let o = origin j (omega arith) (finishes-there (rows t k) (tops t k) (x j) (releases s j k) (starts s j k) (rw f at (says t a xs j l k p q))) in
       let i = o .0 in

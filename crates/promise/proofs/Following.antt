@@ -1,7 +1,7 @@
 -- What a sequence is made of: each of its ticks is accepted in the state before it, answers what the machine answers there, and leaves the state after it.
 use Prim.Native.Nat.{ℕ, zero, suc, _<_}
 use mathlib.Core.Path.{_≡_, refl, sym, _∙_, ap, subst}
-use mathlib.Core.Bool.{Bool, true, false, cond}
+use mathlib.Core.Bool.{Bool, true, false}
 use mathlib.Core.List.{List, [], _∷_}
 use native.Mathlib.Nat.{not-suc-le-zero, le-of-suc-le-suc}
 use lib.Dec.{eqb}
@@ -10,7 +10,7 @@ use Rattle.table.specs.declared.Refusal.{Refusal}
 use Rattle.machine.specs.declared.Machine.{Machine}
 use Rattle.machine.specs.Tick.{accepted}
 use Rattle.conduct.proofs.Laws.{tick-refusal, tick-refused}
-use Rattle.promise.specs.Sequences.{Report, told, accepts, Step, step, steps, nth, state}
+use Rattle.promise.specs.Sequences.{Report, told, accepts, Step, step, counted, steps, nth, state}
 
 -- an answer accepts exactly where no refusal is given
 accepts-is : (m : Machine) (x : Report) → accepts (told m x .answer) ≡ accepted m (x .released) (x .finished)
@@ -38,7 +38,7 @@ following m [] = λ i l. absurd (not-suc-le-zero l)
 following m (x ∷ xs) = by (accepts (told m x .answer)) refl (following (told m x .machine) xs)
   where
     by : (b : Bool) → accepts (told m x .answer) ≡ b → Following (told m x .machine) (steps (told m x .machine) xs)
-        → Following m (cond b (step x (told m x) ∷ steps (told m x .machine) xs) (steps (told m x .machine) xs))
+        → Following m (counted b (step x (told m x)) (steps (told m x .machine) xs))
     by true e rest =
         one-more m (step x (told m x)) (steps (told m x .machine) xs) (record { accepted = sym (accepts-is m x) ∙ e; answer = refl; after = refl }) rest
     by false e rest =

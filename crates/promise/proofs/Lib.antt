@@ -8,3 +8,6 @@ pub mod Waits
 pub mod Ends
 pub mod Times
 pub mod Demand3
+pub mod Time
+pub mod Calls
+pub mod Contracts

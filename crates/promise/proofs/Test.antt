@@ -24,14 +24,14 @@ use Rattle.conduct.specs.Lives.{row}
 use Rattle.promise.specs.Promise.{Admitted}
 
 -- the verdict: no refusal, and every task passes
-verdict-parts : (t : Table) → quickAnswer t .admitted ≡ true → (refusal t .number ≡ 0) × ((i : ℕ) → i < t .n → load t (suc i) < limit t (suc i))
+verdict-parts : (t : Table) → Admitted t → (refusal t .number ≡ 0) × ((i : ℕ) → i < t .n → load t (suc i) < limit t (suc i))
 unfolding quickAnswer
-verdict-parts t v = by (accepted t) refl v
+verdict-parts t a = by (accepted t) refl
   where
-    by : (b : Bool) → accepted t ≡ b → quickAnswer t .admitted ≡ true → (refusal t .number ≡ 0) × ((i : ℕ) → i < t .n → load t (suc i) < limit t (suc i))
-    by true e v =
-        (eqb-true _ 0 e, λ i l. ltb-true _ _ (sym (passes-is t (suc i)) ∙ every-holds (passes t) (t .n) (rw e at v) i l))
-    by false e v = absurd (true≢false (sym (rw e at v)))
+    by : (b : Bool) → accepted t ≡ b → (refusal t .number ≡ 0) × ((i : ℕ) → i < t .n → load t (suc i) < limit t (suc i))
+    by true e =
+        (eqb-true _ 0 e, λ i l. ltb-true _ _ (sym (passes-is t (suc i)) ∙ every-holds (passes t) (t .n) (rw e at (a .verdict)) i l))
+    by false e = absurd (true≢false (sym (rw e at (a .verdict))))
 
 module _ (t : Table) (few : t .n ≤ mostTasks) where
   pub same-task : Each (t .n) (λ k. τ (trimmed t) k ≡ τ t k)
@@ -57,7 +57,7 @@ module _ (t : Table) (few : t .n ≤ mostTasks) where
 -- the table that a fresh machine keeps is admitted as the theory has it
 module _ (t : Table) (a : Admitted t) where
   pub not-refused : refusal t .number ≡ 0
-  not-refused = verdict-parts t (a .verdict) .0
+  not-refused = verdict-parts t a .0
 
   pub good-table : Good t
   good-table = good-of t (a .whole) not-refused
@@ -72,7 +72,7 @@ module _ (t : Table) (a : Admitted t) where
 
   light : (i : ℕ) → i < t .n → load (trimmed t) (suc i) < limit (trimmed t) (suc i)
   light i l =
-      rw (same-load t few (suc i) (omega arith) l, same-limit t few (suc i) (omega arith) l) (verdict-parts t (a .verdict) .1 i l)
+      rw (same-load t few (suc i) (omega arith) l, same-limit t few (suc i) (omega arith) l) (verdict-parts t a .1 i l)
 
   pub admitted : L.Admitted (t .n) (M t) (B (trimmed t)) (λ i. A (τ (trimmed t) i)) (λ i. row (τ (trimmed t) i))
   unfolding load limit interference

@@ -11,7 +11,7 @@ use Rattle.lives.specs.Life.{Life, slack, age, ran, idles, waits, runs}
 use Rattle.lives.specs.Style.{Unfinished}
 use Rattle.lives.proofs.Ages.{waits-below-slack, runs-below-slack}
 use Rattle.promise.specs.Sequences.{Report, Sequence, sequence, count, releases, finishes, starts}
-use Rattle.promise.specs.Promise.{Admitted}
+use Rattle.promise.specs.Promise.{InSlack, Admitted}
 use Rattle.promise.proofs.Bits.{led, comes-age, waits-on}
 use Rattle.promise.proofs.Course.{rows, tops, lives, same-row, says, does, course}
 
@@ -69,13 +69,13 @@ module _ (t : Table) (a : Admitted t) (xs : List Report) (k : ℕ) (p : 1 ≤ k)
       at : suc i + (j - i) ≡ suc j
       at = omega arith
 
-      pub waits-short : ((e : ℕ) → i ≤ e → e ≤ j → starts s e k ≡ false) → j - i + 1 < D (τ t k) - C (τ t k)
+      pub waits-short : ((e : ℕ) → i ≤ e → e ≤ j → starts s e k ≡ false) → InSlack t k (j - i + 1)
       waits-short none =
           let w : waits (x (suc j)) ≡ 1 = waiting j h l none in
           let job = unfinished j h l (λ d u v. none d u (omega arith)) (waits-there (x (suc j)) w) in
           omega (arith, waits-below-slack (course t a xs) k p q (suc i) (j - i) (omega arith) job (rw at w), ap slack (same-row t a xs k p q))
 
-      pub starts-short : ((e : ℕ) → i ≤ e → e < j → starts s e k ≡ false) → starts s j k ≡ true → j - i < D (τ t k) - C (τ t k)
+      pub starts-short : ((e : ℕ) → i ≤ e → e < j → starts s e k ≡ false) → starts s j k ≡ true → InSlack t k (j - i)
       starts-short none go =
           let y = led (tops t k) (x j) (finishes s j k) (releases s j k) (starts s j k) in
           let is : y ≡ x (suc j) = does t a xs j l k p q in

@@ -1,4 +1,6 @@
 -- Demand 3: what is promised of a table that is admitted, whatever the machine is told. Tasks are numbered 1 to n, ticks and states as in Sequences.antt.
+-- How to read it: `A → B` is "if A then B" and `(i : ℕ) → A` "for every number i, A"; `A × B` is "A and B" and `(i : ℕ) × A` "there is a number i with A";
+-- `Each n (λ k. A)` is "for each task k from 1 to n, A"; `x ≡ y` and `x ≢ y` are "x is y" and "x is not y". A record is all of its fields.
 use mathlib.Core.Path.{_≡_}
 use mathlib.Core.Bool.{true, false}
 use mathlib.Core.List.{List}
@@ -14,6 +16,14 @@ use Rattle.sets.specs.Sets.{has}
 use Rattle.machine.specs.Jobs.{job}
 use Rattle.promise.specs.Sequences.{Report, told, Sequence, sequence, count, tickAt, state, releases, finishes, starts}
 
+-- w ticks are fewer than the slack D - C of task k
+abbrev pub InSlack : Table → ℕ → ℕ → Type 0
+InSlack t k w = w < D (τ t k) - C (τ t k)
+
+-- w ticks after its release the deadline of a job of task k is still to come
+abbrev pub InDeadline : Table → ℕ → ℕ → Type 0
+InDeadline t k w = w < D (τ t k)
+
 -- tick j finishes the job of task k that tick i released
 pub record Finished (s : Sequence) (k i j : ℕ) : Type 0 where
   pub later : i < j
@@ -23,10 +33,10 @@ pub record Finished (s : Sequence) (k i j : ℕ) : Type 0 where
 pub record Kept (t : Table) (s : Sequence) : Type 0 where
   -- 1. A job of task k that tick i releases and none of the ticks i to j starts has waited j - i + 1 ticks, fewer than D - C.
   pub waits : Each (t .n) (λ k. (i j : ℕ) → i ≤ j → j < count s
-      → releases s i k ≡ true → ((e : ℕ) → i ≤ e → e ≤ j → starts s e k ≡ false) → j - i + 1 < D (τ t k) - C (τ t k))
+      → releases s i k ≡ true → ((e : ℕ) → i ≤ e → e ≤ j → starts s e k ≡ false) → InSlack t k (j - i + 1))
   -- So one that starts, starts after fewer ticks than that.
   pub startsSoon : Each (t .n) (λ k. (i j : ℕ) → i ≤ j → j < count s
-      → releases s i k ≡ true → ((e : ℕ) → i ≤ e → e < j → starts s e k ≡ false) → starts s j k ≡ true → j - i < D (τ t k) - C (τ t k))
+      → releases s i k ≡ true → ((e : ℕ) → i ≤ e → e < j → starts s e k ≡ false) → starts s j k ≡ true → InSlack t k (j - i))
   -- 2. No task is late in any tick.
   pub notLate : (i : ℕ) → i < count s → tickAt s i .answer .late ≡ 0
   -- 3. No report whatever, tried on any state, is refused under 13.
@@ -35,7 +45,7 @@ pub record Kept (t : Table) (s : Sequence) : Type 0 where
   pub alone : (i : ℕ) → i ≤ count s → (p : ℕ) → Each (t .n) (λ k. Each (t .n) (λ l.
       has (job (state s i) k .held) p ≡ true → has (job (state s i) l .held) p ≡ true → k ≡ l))
   -- and every job that is finished was released before, less than D ticks ago.
-  pub ends : Each (t .n) (λ k. (j : ℕ) → j < count s → finishes s j k ≡ true → (i : ℕ) × (Finished s k i j) × (j - i < D (τ t k)))
+  pub ends : Each (t .n) (λ k. (j : ℕ) → j < count s → finishes s j k ≡ true → (i : ℕ) × (Finished s k i j) × InDeadline t k (j - i))
 
 -- The table is admitted by the quick answer. An array of the board's has its 32 entries; a list in a definition need not, so that it is said here.
 pub record Admitted (t : Table) : Type 0 where

@@ -1,7 +1,7 @@
 -- Sequences of ticks. A machine is told one report after another and goes on from the state that each leaves. The reports that it accepts are the ticks of the
 -- sequence, numbered 0, 1, 2, ..; a refused report has no number. State 0 is the first state, and tick i leads from state i to state i + 1.
 use Prim.Native.Nat.{ℕ, zero, suc}
-use mathlib.Core.Bool.{Bool, cond}
+use mathlib.Core.Bool.{Bool, true, false}
 use mathlib.Core.List.{List, [], _∷_}
 use lib.Dec.{eqb}
 use lib.ListN.{length}
@@ -35,13 +35,15 @@ pub record Step : Type 0 where
 abbrev pub step : Report → Ticked → Step
 step x r = record { report = x; answer = r .answer; after = r .machine }
 
+-- a tick counts if it is accepted
+abbrev pub counted : Bool → Step → List Step → List Step
+counted true st rest = st ∷ rest
+counted false st rest = rest
+
 -- the accepted ticks among the reports, from state m on
 unfoldable pub steps : Machine → List Report → List Step
 steps m [] = []
-steps m (x ∷ xs) =
-    cond (accepts (told m x .answer))
-    (step x (told m x) ∷ steps (told m x .machine) xs)
-    (steps (told m x .machine) xs)
+steps m (x ∷ xs) = counted (accepts (told m x .answer)) (step x (told m x)) (steps (told m x .machine) xs)
 
 pub record Sequence : Type 0 where
   pub first : Machine

@@ -1,11 +1,13 @@
 -- The promise is not empty: P1 of document 01 is admitted and its tasks contend, and time can always go on.
 use mathlib.Core.Path.{_≡_}
+use mathlib.Core.Bool.{true}
 use mathlib.Core.List.{[], _∷_}
 use Prim.Native.Nat.{ℕ, _≤_}
 use lib.ListN.{replicate}
 use Rattle.table.specs.declared.Task.{Task}
 use Rattle.table.specs.declared.Table.{Table}
 use Rattle.table.specs.Tasks.{noTask}
+use Rattle.machine.specs.Jobs.{waits}
 use Rattle.promise.specs.Sequences.{Report, told, Sequence, sequence, count, tickAt, state}
 use Rattle.promise.specs.Promise.{Admitted}
 
@@ -29,6 +31,7 @@ pub record Contended : Type 0 where
   pub admitted : Admitted p1
   pub accepted : count (sequence p1 (all3 ∷ [])) ≡ 1
   pub started : tickAt (sequence p1 (all3 ∷ [])) 0 .answer .started ≡ 3
+  pub waits : waits (state (sequence p1 (all3 ∷ [])) 1) 3 ≡ true
 
 -- In each state of a sequence some report is accepted.
 abbrev pub GoesOn : Sequence → Type 0

@@ -11,6 +11,9 @@ use Rattle.table.specs.declared.Refusal.{Refusal}
 use Rattle.table.specs.Limits.{mostTasks, mostCores, mostPartitions, longestPeriod}
 use Rattle.table.specs.Tasks.{M, P, D, T, C, A}
 
+abbrev pub noRefusal : Refusal
+noRefusal = record { number = 0; row = 0 }
+
 unfoldable pub tableRules : List (Rule Table)
 tableRules =
     rule 1 (λ t. outside 1 mostTasks (t .n))
@@ -33,7 +36,7 @@ rowRefusal p τ = first (rowRules p) τ
 
 -- the first refusal of rows k, k + 1, ..
 unfoldable pub rowsFrom : ℕ → ℕ → List Task → Refusal
-rowsFrom p k [] = record { number = 0; row = 0 }
+rowsFrom p k [] = noRefusal
 rowsFrom p k (τ ∷ τs) =
     cond (eqb (rowRefusal p τ) 0)
     (rowsFrom p (suc k) τs)

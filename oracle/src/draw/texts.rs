@@ -102,6 +102,9 @@ fn long(rng: &mut Rng, form: &Form) -> Vec<u8> {
     text
 }
 
+/// The longest text of a case: as much as the program `answers` has room for.
+const ROOM: usize = 65_536;
+
 /// A text of the form, good or with up to three things wrong.
 pub fn spoiled(rng: &mut Rng, form: &Form, mut text: Vec<u8>) -> Vec<u8> {
     for _ in 0..rng.pick(&[0, 1, 1, 1, 1, 2, 3]) {
@@ -113,6 +116,7 @@ pub fn spoiled(rng: &mut Rng, form: &Form, mut text: Vec<u8>) -> Vec<u8> {
             _ => spoil_whole(rng, form, text),
         };
     }
+    text.truncate(ROOM);
     text
 }
 
@@ -215,7 +219,7 @@ fn spoil_line(rng: &mut Rng, text: Vec<u8>) -> Vec<u8> {
                 [&body[..], rng.pick(&["\n", "\r", "\n\r", "\r\r\n", "\r\n\r\n", "", " \r\n", ",\r\n"]).as_bytes()].concat()
         }
         6 => lines.insert(at, b"\r\n".to_vec()),
-        _ => lines[at] = [&[b','], &body[..], b"\r\n"].concat(),
+        _ => lines[at] = [b",", &body[..], b"\r\n"].concat(),
     }
     lines.concat()
 }

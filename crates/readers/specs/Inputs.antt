@@ -1,0 +1,61 @@
+-- What the rows of a text say: a platform, a table, ticks. A text that is not of its form is refusal 15 with the offset, and then
+-- everything else is 0. Of the tasks every row is counted and the first 32 are kept.
+use Prim.Native.Nat.{ℕ}
+use mathlib.Core.List.{List, [], _∷_, _++_, map}
+use lib.ListN.{length, getD}
+use Rattle.maths.specs.Padded.{padded}
+use Rattle.table.specs.declared.Platform.{Platform}
+use Rattle.table.specs.declared.Task.{Task}
+use Rattle.table.specs.declared.Table.{Table}
+use Rattle.table.specs.declared.Refusal.{Refusal}
+use Rattle.table.specs.Limits.{mostTasks}
+use Rattle.table.specs.Refused.{noRefusal}
+use Rattle.table.specs.Tasks.{noTask, emptyTable}
+use Rattle.forms.specs.Forms.{ticksForm, crlf}
+use Rattle.forms.specs.Reads.{Answer, found, refused}
+use Rattle.readers.specs.declared.PlatformRead.{PlatformRead}
+use Rattle.readers.specs.declared.TableRead.{TableRead}
+use Rattle.readers.specs.declared.Tick.{Tick}
+use Rattle.readers.specs.declared.TicksRead.{TicksRead}
+use Rattle.readers.specs.declared.TickRead.{TickRead}
+use Rattle.readers.specs.Places.{rowAt}
+
+abbrev pub badText : ℕ → Refusal
+badText offset = record { number = 15; row = offset }
+
+abbrev pub platformOf : List ℕ → Platform
+platformOf row = record { cores = record { 0 = getD row 0 0 }; partitions = record { 0 = getD row 1 0 } }
+
+abbrev pub taskOf : List ℕ → Task
+taskOf row = record { d = getD row 0 0; t = getD row 1 0; c = getD row 2 0; a = record { 0 = getD row 3 0 } }
+
+unfoldable pub tableOf : Platform → List (List ℕ) → Table
+tableOf platform rows = record { platform = platform; n = length rows; rows = padded mostTasks noTask (map taskOf rows) }
+
+abbrev pub noPlatform : Platform
+noPlatform = platformOf []
+
+-- a platform text has one row
+abbrev pub platformRead : Answer (List (List ℕ)) → PlatformRead
+platformRead (found rows) = record { refused = noRefusal; platform = platformOf (getD rows 0 []) }
+platformRead (refused offset) = record { refused = badText offset; platform = noPlatform }
+
+abbrev pub tableRead : Platform → Answer (List (List ℕ)) → TableRead
+tableRead platform (found rows) = record { refused = noRefusal; table = tableOf platform rows }
+tableRead platform (refused offset) = record { refused = badText offset; table = emptyTable noPlatform }
+
+abbrev pub tickOf : List ℕ → Tick
+tickOf row = record { released = getD row 0 0; finished = getD row 1 0 }
+
+-- the ticks are read one by one from the place behind the header
+abbrev pub ticksRead : Answer (List (List ℕ)) → TicksRead
+ticksRead (found rows) = record { refused = noRefusal; count = length rows }
+ticksRead (refused offset) = record { refused = badText offset; count = 0 }
+
+abbrev pub firstTick : ℕ
+firstTick = length (ticksForm .header ++ crlf)
+
+unfoldable pub tickAt : List ℕ → ℕ → TickRead
+tickAt text at =
+    let row = rowAt text at 2 in
+    record { tick = tickOf (row .numbers); next = row .next }

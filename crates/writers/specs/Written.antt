@@ -1,0 +1,41 @@
+-- What a writer gives and leaves: the text at the front of the buffer with the bytes past it as they were, or refusal 16 where the text
+-- is longer than the buffer, and then nothing is changed.
+use Prim.Native.Nat.{ℕ, _+_, _-_}
+use mathlib.Core.Path.{_≡_}
+use mathlib.Core.Bool.{true, false, cond}
+use mathlib.Core.List.{List, _++_}
+use lib.Dec.{leb}
+use lib.ListN.{length, drop}
+use lib.Seq.{sets}
+use Rattle.table.specs.declared.Refusal.{Refusal}
+use Rattle.table.specs.Refused.{noRefusal}
+use Rattle.writers.specs.declared.Room.{Room}
+use Rattle.writers.specs.declared.Written.{Written}
+
+abbrev pub tooShort : Refusal
+tooShort = record { number = 16; row = 0 }
+
+unfoldable pub written : List ℕ → List ℕ → Written
+written text buffer =
+    cond (leb (length text) (length buffer))
+    (record { refused = noRefusal; length = length text })
+    (record { refused = tooShort; length = 0 })
+
+unfoldable pub leaves : List ℕ → List ℕ → List ℕ
+leaves text buffer = cond (leb (length text) (length buffer)) (text ++ drop (length text) buffer) buffer
+
+pub record Wrote (text buffer : List ℕ) (answer : Written) (after : List ℕ) : Type 0 where
+  pub answers : answer ≡ written text buffer
+  pub holds : after ≡ leaves text buffer
+
+-- whether a text fits, and how much room it leaves
+unfoldable pub roomFor : List ℕ → ℕ → Room
+roomFor text room =
+    cond (leb (length text) room)
+    (record { enough = true; left = room - length text })
+    (record { enough = false; left = 0 })
+
+-- a text put into a buffer from a place on: the place behind it, and what the buffer then holds
+pub record Put (buffer : List ℕ) (at : ℕ) (text : List ℕ) (next : ℕ) (after : List ℕ) : Type 0 where
+  pub behind : next ≡ at + length text
+  pub holds : after ≡ sets buffer at text

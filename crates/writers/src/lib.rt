@@ -1,0 +1,302 @@
+// Writers of document 01's texts into buffers that the caller lends. A text is measured first; where it does not fit, nothing is changed.
+ghost use Prim.Native.Nat.{_+_, _≤_, min};
+ghost use mathlib.Core.Path.{_≡_};
+ghost use mathlib.Core.List.{_++_};
+ghost use lib.IntN.{natAbs};
+ghost use lib.ListN.{length, take};
+ghost use Rattle.forms.specs.Digits.{digits};
+ghost use Rattle.forms.specs.Forms.{ending, line};
+ghost use Rattle.writers.specs.Outputs.{platformText, taskRow, tasksText, refusedText};
+ghost use Rattle.table.specs.Limits.{mostTasks};
+ghost use Rattle.writers.specs.Signed.{negative};
+ghost use Rattle.writers.specs.Written.{Put, roomFor, tooShort, Wrote};
+ghost use Rattle.table.specs.Refused.{noRefusal};
+use table::Platform;
+use table::Refusal;
+use table::Table;
+use table::Task;
+
+pub struct Written {
+    pub refused: Refusal,
+    pub length: usize,
+}
+
+// What is left of some room, where there was enough.
+struct Room {
+    enough: bool,
+    left: usize,
+}
+
+// How many digits a number has.
+fn width(n: u64) -> usize
+    ensures { λ r. ⌜ r ≡ length (digits n) ⌝ }
+{
+    let mut w: usize = 1;
+    let mut rest = n;
+    while 10 <= rest {
+        w += 1;
+        rest /= 10;
+    }
+    w
+}
+
+// The digits of a number that has w of them, at the front of scratch room.
+fn digits_of(n: u64, w: usize) -> [u8; 20]
+    requires { ⌜ w ≡ length (digits n) ⌝ }
+    ensures { λ r. ⌜ take w r ≡ digits n ⌝ }
+{
+    let mut room = [0u8; 20];
+    let mut rest = n;
+    let mut i = w;
+    while 1 < i {
+        i -= 1;
+        room[i] = (48 + rest % 10) as u8;
+        rest /= 10;
+    }
+    room[0] = (48 + rest) as u8;
+    room
+}
+
+// Copies the word into the buffer from a place on, and gives the place behind it.
+fn put_word(buf: &mut [u8], at: usize, word: &[u8]) -> usize
+    requires { ⌜ at + length (now word) ≤ length (now buf) ⌝ }
+    ensures { λ r. ⌜ Put (now (buf .entry)) at (now (word .entry)) r (now (buf .exit)) ⌝ }
+{
+    let mut next = at;
+    let mut i: usize = 0;
+    while i < word.len() {
+        buf[next] = word[i];
+        next += 1;
+        i += 1;
+    }
+    next
+}
+
+// A number at a place of the buffer.
+fn put_number(buf: &mut [u8], at: usize, n: u64) -> usize
+    requires { ⌜ at + length (digits n) ≤ length (now buf) ⌝ }
+    ensures { λ r. ⌜ Put (now (buf .entry)) at (digits n) r (now (buf .exit)) ⌝ }
+{
+    let w = width(n);
+    let room = digits_of(n, w);
+    put_word(buf, at, &room[..w])
+}
+
+// A number and what ends it, where so many more follow in its row.
+fn put_cell(buf: &mut [u8], at: usize, n: u64, left: usize) -> usize
+    requires { ⌜ at + length (digits n ++ ending left) ≤ length (now buf) ⌝ }
+    ensures { λ r. ⌜ Put (now (buf .entry)) at (digits n ++ ending left) r (now (buf .exit)) ⌝ }
+{
+    let next = put_number(buf, at, n);
+    if left == 0 {
+        return put_word(buf, next, b"\r\n");
+    }
+    put_word(buf, next, b",")
+}
+
+fn cell_room(n: u64, left: usize, room: usize) -> Room
+    ensures { λ r. ⌜ r ≡ roomFor (digits n ++ ending left) room ⌝ }
+{
+    let mut size = width(n) + 1;
+    if left == 0 {
+        size += 1;
+    }
+    if room < size {
+        return Room {
+            enough: false,
+            left: 0,
+        };
+    }
+    Room {
+        enough: true,
+        left: room - size,
+    }
+}
+
+// A row of the first numbers, so many as there are columns.
+fn put_row(buf: &mut [u8], at: usize, numbers: [u64; 5], columns: usize) -> usize
+    requires { ⌜ (columns ≤ 5) × (at + length (line (take columns numbers)) ≤ length (now buf)) ⌝ }
+    ensures { λ r. ⌜ Put (now (buf .entry)) at (line (take columns numbers)) r (now (buf .exit)) ⌝ }
+{
+    let mut next = at;
+    let mut j: usize = 0;
+    while j < columns {
+        next = put_cell(buf, next, numbers[j], columns - j - 1);
+        j += 1;
+    }
+    next
+}
+
+fn row_room(numbers: [u64; 5], columns: usize, room: usize) -> Room
+    requires { ⌜ columns ≤ 5 ⌝ }
+    ensures { λ r. ⌜ r ≡ roomFor (line (take columns numbers)) room ⌝ }
+{
+    let mut left = room;
+    let mut j: usize = 0;
+    while j < columns {
+        let m = cell_room(numbers[j], columns - j - 1, left);
+        if !m.enough {
+            return Room {
+                enough: false,
+                left: 0,
+            };
+        }
+        left = m.left;
+        j += 1;
+    }
+    Room {
+        enough: true,
+        left: left,
+    }
+}
+
+fn word_room(word: &[u8], room: usize) -> Room
+    ensures { λ r. ⌜ r ≡ roomFor (now (word .entry)) room ⌝ }
+{
+    if room < word.len() {
+        return Room {
+            enough: false,
+            left: 0,
+        };
+    }
+    Room {
+        enough: true,
+        left: room - word.len(),
+    }
+}
+
+impl Written {
+    fn short() -> Written
+        ensures { λ r. ⌜ r ≡ record { refused = tooShort; length = 0 } ⌝ }
+    {
+        Written {
+            refused: Refusal { number: 16, row: 0 },
+            length: 0,
+        }
+    }
+
+    fn whole(length: usize) -> Written
+        ensures { λ r. ⌜ r ≡ record { refused = noRefusal; length = length } ⌝ }
+    {
+        Written {
+            refused: Refusal { number: 0, row: 0 },
+            length: length,
+        }
+    }
+}
+
+// A header line and one row.
+fn write_one(buf: &mut [u8], header: &[u8], numbers: [u64; 5], columns: usize) -> Written
+    requires { ⌜ columns ≤ 5 ⌝ }
+    ensures { λ r. ⌜ Wrote (now (header .entry) ++ line (take columns numbers)) (now (buf .entry)) r (now (buf .exit)) ⌝ }
+{
+    let head = word_room(header, buf.len());
+    if !head.enough {
+        return Written::short();
+    }
+    let row = row_room(numbers, columns, head.left);
+    if !row.enough {
+        return Written::short();
+    }
+    let next = put_word(buf, 0, header);
+    let end = put_row(buf, next, numbers, columns);
+    Written::whole(end)
+}
+
+// The text of a platform.
+pub fn write_platform(p: Platform, buf: &mut [u8]) -> Written
+    ensures { λ r. ⌜ Wrote (platformText p) (now (buf .entry)) r (now (buf .exit)) ⌝ }
+{
+    let numbers = [p.cores.0 as u64, p.partitions.0 as u64, 0, 0, 0];
+    write_one(buf, b"cores,partitions\r\n", numbers, 2)
+}
+
+// The listing of a refused table or text.
+pub fn write_refused(r: Refusal, buf: &mut [u8]) -> Written
+    ensures { λ w. ⌜ Wrote (refusedText r) (now (buf .entry)) w (now (buf .exit)) ⌝ }
+{
+    let numbers = [r.number as u64, r.row as u64, 0, 0, 0];
+    write_one(buf, b"refused,row\r\n", numbers, 2)
+}
+
+fn task_numbers(t: Task) -> [u64; 5]
+    ensures { λ r. ⌜ take 4 r ≡ taskRow t ⌝ }
+{
+    [t.d as u64, t.t as u64, t.c as u64, t.a.0 as u64, 0]
+}
+
+// How many rows a table holds.
+fn held_rows(t: Table) -> usize
+    ensures { λ r. ⌜ r ≡ min (t .n) mostTasks ⌝ }
+{
+    if t.n < Table::MOST { t.n } else { Table::MOST }
+}
+
+fn tasks_room(t: Table, room: usize) -> Room
+    ensures { λ r. ⌜ r ≡ roomFor (tasksText t) room ⌝ }
+{
+    let head = word_room(b"D,T,C,A\r\n", room);
+    if !head.enough {
+        return head;
+    }
+    let n = held_rows(t);
+    let mut left = head.left;
+    let mut i: usize = 0;
+    while i < n {
+        let task = t.rows[i];
+        let numbers = task_numbers(task);
+        let row = row_room(numbers, 4, left);
+        if !row.enough {
+            return row;
+        }
+        left = row.left;
+        i += 1;
+    }
+    Room {
+        enough: true,
+        left: left,
+    }
+}
+
+fn put_tasks(buf: &mut [u8], t: Table) -> usize
+    requires { ⌜ length (tasksText t) ≤ length (now buf) ⌝ }
+    ensures { λ r. ⌜ Put (now (buf .entry)) 0 (tasksText t) r (now (buf .exit)) ⌝ }
+{
+    let n = held_rows(t);
+    let mut next = put_word(buf, 0, b"D,T,C,A\r\n");
+    let mut i: usize = 0;
+    while i < n {
+        let task = t.rows[i];
+        let numbers = task_numbers(task);
+        next = put_row(buf, next, numbers, 4);
+        i += 1;
+    }
+    next
+}
+
+// The tasks text of a table.
+pub fn write_tasks(t: Table, buf: &mut [u8]) -> Written
+    ensures { λ r. ⌜ Wrote (tasksText t) (now (buf .entry)) r (now (buf .exit)) ⌝ }
+{
+    let m = tasks_room(t, buf.len());
+    if !m.enough {
+        return Written::short();
+    }
+    let end = put_tasks(buf, t);
+    Written::whole(end)
+}
+
+fn is_negative(z: i64) -> bool
+    ensures { λ r. ⌜ r ≡ negative z ⌝ }
+{
+    z < 0
+}
+
+fn magnitude(z: i64) -> u64
+    ensures { λ r. ⌜ r ≡ natAbs z ⌝ }
+{
+    if z < 0 {
+        return ((-1 - z) as u64) + 1;
+    }
+    z as u64
+}

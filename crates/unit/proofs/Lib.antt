@@ -1,6 +1,7 @@
 pub mod Cut
 pub mod Data
 pub mod Demands
+pub mod Determined
 pub mod Fill
 pub mod First
 pub mod InC

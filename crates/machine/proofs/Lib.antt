@@ -1,1 +1,4 @@
 pub mod Jobs
+pub mod StateParts
+pub mod StateTest
+pub mod StateLoops

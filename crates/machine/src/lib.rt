@@ -1,4 +1,6 @@
 // The machine: a table and the job of each task, moved on by ticks under blocking FP_CA.
+mod state;
+
 use table::Refusal;
 use table::Table;
 

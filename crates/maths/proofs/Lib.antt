@@ -5,3 +5,4 @@ pub mod Lists
 pub mod Widths
 pub mod Signed
 pub mod Tasks
+pub mod Arrays

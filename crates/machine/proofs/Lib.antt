@@ -2,3 +2,5 @@ pub mod Jobs
 pub mod StateParts
 pub mod StateTest
 pub mod StateLoops
+pub mod TickTurns
+pub mod TickRules

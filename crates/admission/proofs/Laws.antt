@@ -17,8 +17,18 @@ use Rattle.maths.specs.Tasks.{tabulate}
 use Rattle.maths.proofs.Tasks.{every-lowest, set-tabulate}
 use Rattle.table.specs.declared.Table.{Table}
 use Rattle.table.specs.Limits.{mostTasks}
-use Rattle.table.specs.Tasks.{τ, T, C}
-use Rattle.admission.specs.Test.{S, less, margin, above0, passes, weight, load, limit, interference, admitted, firstFailing}
+use Rattle.table.specs.Tasks.{τ, T, C, A}
+use Rattle.admission.specs.Test.{S, Amax, less, margin, above0, passes, weight, load, limit, interference, admitted, firstFailing}
+
+-- no task of 1 to k asks for more than Amax of k
+pub Amax-over : (t : Table) (k i : ℕ) → i < k → A (τ t (suc i)) ≤ Amax t k
+unfolding Amax
+Amax-over t zero i l = absurd (omega arith)
+Amax-over t (suc k) i l =
+    elim (decLt i k) [
+      | yes h ↦ omega (arith, Amax-over t k i h)
+      | no h ↦ let e : i ≡ k = omega arith in rw e (omega arith)
+    ]
 
 -- a margin is above 0 exactly where the load is below the limit
 above0-less : (a b : ℕ) → above0 (less a b) ≡ ltb b a

@@ -13,6 +13,7 @@ use table::Refusal;
 use table::Table;
 use table::Task;
 
+#[repr(C)]
 pub struct FullAnswer {
     pub refused: Refusal,
     pub admitted: bool,
@@ -25,6 +26,7 @@ struct Judged {
     first: usize,
 }
 
+#[repr(C)]
 pub struct QuickAnswer {
     pub refused: Refusal,
     pub admitted: bool,

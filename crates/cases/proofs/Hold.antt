@@ -1,8 +1,7 @@
--- test
-use Prim.Native.Nat.{ℕ}
+-- Every case of document 01 holds of the definitions, by computation.
 use mathlib.Core.Path.{_≡_, refl}
-use mathlib.Core.List.{List, [], _∷_}
-use lib.IntN.{ℤ, pos, negsuc}
+use mathlib.Core.List.{List, map}
+use lib.IntN.{ℤ}
 use Rattle.maths.specs.Sums.{sum}
 use Rattle.maths.specs.Tasks.{every, lowest, tabulate}
 use Rattle.table.specs.Refused.{tableRules, rowRules, rowsFrom, refusal}
@@ -15,8 +14,8 @@ use Rattle.machine.specs.Fresh.{fresh}
 use Rattle.machine.specs.Conditions.{goodJob, goodState}
 use Rattle.machine.specs.Steps.{forTasks, startWaiting}
 use Rattle.machine.specs.Tick.{tickRules, firstGiven, tickRefusal, tick}
-use Rattle.cases.specs.Rows.{report, answered, ticks, admit, listing, after, p8, p8Reports}
+use Rattle.cases.specs.Rows.{Case, answered, listing, after, cases}
 
-test1 : answered (ticks p8 (report 15 0 ∷ [])) ≡ (pos 0 ∷ pos 0 ∷ pos 0 ∷ pos 0 ∷ pos 3 ∷ []) ∷ []
-unfolding sum every lowest tabulate tableRules rowRules rowsFrom refusal size members setOf setWhere unionOf allApart choice running busy fresh goodJob goodState forTasks startWaiting tickRules firstGiven tickRefusal tick listing after
-test1 = refl
+pub cases-hold : map (λ (c : Case). answered (c .asked)) cases ≡ map (λ (c : Case). c .expected) cases
+unfolding sum every lowest tabulate tableRules rowRules rowsFrom refusal Amax interference load limit less size members setOf setWhere unionOf allApart choice running busy fresh goodJob goodState forTasks startWaiting tickRules firstGiven tickRefusal tick listing after cases
+cases-hold = refl

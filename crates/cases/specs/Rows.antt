@@ -86,9 +86,55 @@ answered (load2 m b a x) =
 answered (ticks t xs) = listing 0 (fresh t) xs
 answered (holds t xs k) = (pos (job (after (fresh t) xs) k .held) ∷ []) ∷ []
 
-abbrev pub p8 : Table
+-- a case: its number in document 01, what is asked, and the answer that document 01 gives
+pub record Case : Type 0 where
+  pub number : ℕ
+  pub asked : Asked
+  pub expected : List (List ℤ)
+
+abbrev case : ℕ → Asked → List (List ℤ) → Case
+case number asked expected = record { number = number; asked = asked; expected = expected }
+
+-- M = 1, P = 1 and one task
+abbrev one : ℕ → ℕ → ℕ → ℕ → Table
+one d t c a = table 1 1 (row d t c a ∷ [])
+
+abbrev margin1 : ℤ → ℕ → List (List ℤ)
+margin1 margin pass = (pos 1 ∷ margin ∷ pos pass ∷ []) ∷ []
+
+abbrev ticked : ℕ → ℕ → ℕ → ℕ → ℕ → List ℤ
+ticked at refused finished late started = pos at ∷ pos refused ∷ pos finished ∷ pos late ∷ pos started ∷ []
+
+abbrev p8 : Table
 p8 = table 3 4 (row 6 6 2 1 ∷ row 8 8 3 2 ∷ row 9 9 2 2 ∷ row 12 12 2 1 ∷ [])
 
-abbrev pub p8Reports : List Report
-p8Reports =
-    report 15 0 ∷ report 0 0 ∷ report 0 1 ∷ report 0 2 ∷ report 0 4 ∷ report 1 8 ∷ report 0 8 ∷ report 1 0 ∷ []
+unfoldable pub cases : List Case
+cases =
+    case 1
+    (admit (table 2 4 (row 40 50 2 1 ∷ row 60 60 3 2 ∷ row 80 100 4 2 ∷ [])))
+    ((pos 1 ∷ pos 232 ∷ pos 1 ∷ []) ∷ (pos 2 ∷ pos 268 ∷ pos 1 ∷ []) ∷ (pos 3 ∷ pos 370 ∷ pos 1 ∷ []) ∷ [])
+    ∷ case 2 (admit (one 6 6 2 1)) (margin1 (pos 0) 0)
+    ∷ case 3 (admit (one 7 7 2 1)) (margin1 (pos 1) 1)
+    ∷ case 4 (admit (one 5 5 2 1)) (margin1 (negsuc 0) 0)
+    ∷ case 5 (admit (one 2 2 2 1)) (margin1 (negsuc 3) 0)
+    ∷ case 6 (admit (one 6 6 2 0)) (margin1 (pos 0) 0)
+    ∷ case 7 (load2 2 4 (1 ∷ 3 ∷ 1 ∷ []) (4 ∷ 4 ∷ 6 ∷ [])) ((pos 64 ∷ pos 8 ∷ []) ∷ [])
+    ∷ case 8
+    (ticks p8 (report 15 0 ∷ report 0 0 ∷ report 0 1 ∷ report 0 2 ∷ report 0 4 ∷ report 1 8 ∷ report 0 8 ∷ report 1 0 ∷ []))
+    (ticked 0 0 0 0 3
+    ∷ ticked 1 0 0 0 0
+    ∷ ticked 2 0 1 0 4
+    ∷ ticked 3 0 2 0 8
+    ∷ ticked 4 0 4 0 0
+    ∷ ticked 5 12 0 0 0
+    ∷ ticked 5 0 8 0 0
+    ∷ ticked 6 0 0 0 1
+    ∷ [])
+    ∷ case 8 (holds p8 (report 15 0 ∷ report 0 0 ∷ report 0 1 ∷ []) 3) ((pos 9 ∷ []) ∷ [])
+    ∷ case 9
+    (ticks (table 1 1 (row 2 4 2 1 ∷ row 3 4 2 1 ∷ [])) (report 3 0 ∷ report 0 0 ∷ report 0 1 ∷ report 0 0 ∷ []))
+    (ticked 0 0 0 0 1 ∷ ticked 1 0 0 0 0 ∷ ticked 2 0 1 0 2 ∷ ticked 3 0 0 2 0 ∷ [])
+    ∷ case 10
+    (ticks (table 1 1 (row 3 3 3 1 ∷ row 1 1 1 1 ∷ [])) (report 3 0 ∷ report 2 0 ∷ []))
+    (ticked 0 0 0 0 1 ∷ ticked 1 13 0 0 0 ∷ [])
+    ∷ []

@@ -25,7 +25,7 @@ use Rattle.machine.specs.declared.Job.{Job}
 use Rattle.machine.specs.declared.Machine.{Machine}
 use Rattle.machine.specs.Jobs.{isIdle, noJob, job, running}
 use Rattle.machine.specs.Conditions.{isNoTask, isNoJob, hasNothing, goodStage, goodJob, goodState}
-use Rattle.machine.proofs.StateParts.{Rests, Idles, Runs, ByStage, GoodJob, GoodState}
+use Rattle.machine.proofs.StateParts.{Rests, ByStage, GoodJob, GoodState}
 
 -- all of x is below p
 below-lt : (x p : ℕ) → without x (below p) ≡ 0 → x < 2 ^ p

@@ -32,6 +32,7 @@ pub struct SetUp {
 }
 
 // What a tick answers: three sets of tasks, or the refusal.
+#[repr(C)]
 pub struct Answer {
     pub refused: Refusal,
     pub finished: u32,

@@ -85,6 +85,7 @@ impl Job {
         }
     }
 
+    // An entry past n.
     fn is_none(self) -> bool
         ensures { λ r. ⌜ r ≡ isNoJob self ⌝ }
     {
@@ -101,6 +102,7 @@ impl Job {
         self.held == 0
     }
 
+    // It holds no partition and has run 0, as is asked of a waiting job.
     fn has_nothing(self) -> bool
         ensures { λ r. ⌜ r ≡ hasNothing self ⌝ }
     {
@@ -110,6 +112,7 @@ impl Job {
         self.ran == 0
     }
 
+    // What is asked of an idle job.
     fn idles_well(self) -> bool
         ensures { λ r. ⌜ r ≡ (hasNothing self && leb 1 (self .age)) ⌝ }
     {
@@ -119,6 +122,7 @@ impl Job {
         1 <= self.age
     }
 
+    // What is asked of a running job, of a task whose C is 1 or more, on a cache of p partitions.
     fn runs_well(self, p: Partitions, task: Task) -> bool
         requires { ⌜ (p .0 ≤ mostPartitions) × (1 ≤ C task) ⌝ }
         ensures { λ r. ⌜ r ≡ goodStage (p .0) task self Stage.Running ⌝ }
@@ -154,6 +158,7 @@ impl Job {
     }
 }
 
+// An entry past n.
 fn is_no_task(t: Task) -> bool
     ensures { λ r. ⌜ r ≡ isNoTask t ⌝ }
 {
@@ -308,7 +313,7 @@ impl Machine {
 }
 
 // How many jobs run.
-pub fn count_running(m: Machine) -> u32
+pub(crate) fn count_running(m: Machine) -> u32
     requires { ⌜ m .table .n ≤ mostTasks ⌝ }
     ensures { λ r. ⌜ r ≡ running m ⌝ }
 {
@@ -326,7 +331,7 @@ pub fn count_running(m: Machine) -> u32
 }
 
 // The partitions that some job holds.
-pub fn union_held(m: Machine) -> u64
+pub(crate) fn union_held(m: Machine) -> u64
     requires { ⌜ m .table .n ≤ mostTasks ⌝ }
     ensures { λ r. ⌜ r ≡ busy m ⌝ }
 {

@@ -59,3 +59,21 @@ module _ {X : Type 0} (n : ℕ) (f g : ℕ → X) where
             | yes h ↦ rw (le-leb (suc j) (min i n) (omega arith), le-leb (suc j) i h)
             | no h ↦ rw (lt-leb (suc j) (min i n) (omega arith), lt-leb (suc j) i (omega arith))
           ]
+
+  -- its entries, up to i and past it
+  pub up-in : (i j : ℕ) (d : X) → j < i → j < n → getD (upTo n f g i) j d ≡ f (suc j)
+  up-in i j d l m = getD-tabulate (λ k. cond (leb k i) (f k) (g k)) n j d m ∙ rw (le-leb (suc j) i l)
+
+  pub up-past : (i j : ℕ) (d : X) → i ≤ j → j < n → getD (upTo n f g i) j d ≡ g (suc j)
+  up-past i j d l m = getD-tabulate (λ k. cond (leb k i) (f k) (g k)) n j d m ∙ rw (lt-leb (suc j) i (omega arith))
+
+-- of f only the entries 1 to i count
+pub up-same : {X : Type 0} (n : ℕ) (f h g : ℕ → X) (i : ℕ) → ((j : ℕ) → j < i → j < n → f (suc j) ≡ h (suc j)) → upTo n f g i ≡ upTo n h g i
+up-same n f h g i e = tabulate-ext (λ k. cond (leb k i) (f k) (g k)) (λ k. cond (leb k i) (h k) (g k)) n at
+  where
+    at : (j : ℕ) → j < n → cond (leb (suc j) i) (f (suc j)) (g (suc j)) ≡ cond (leb (suc j) i) (h (suc j)) (g (suc j))
+    at j l =
+        elim (decLt j i) [
+          | yes m ↦ rw (e j m l)
+          | no m ↦ rw (lt-leb (suc j) i (omega arith))
+        ]

@@ -5,4 +5,5 @@ pub mod Lists
 pub mod Widths
 pub mod Signed
 pub mod Tasks
+pub mod Determined
 pub mod Arrays

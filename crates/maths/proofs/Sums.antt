@@ -1,9 +1,10 @@
 -- The laws of finite sums, and their forms over tasks 1 to n. `sum` is opened here alone.
 use mathlib.Core.Path.{_≡_, refl}
+use mathlib.Core.Logic.{_≢_}
 use Prim.Native.Nat.{ℕ, zero, suc, _+_, _*_, _≤_, _<_}
 use native.Mathlib.Numerals.{add-one}
 use native.Mathlib.Omega.{arith}
-use native.Mathlib.Decide.{decLt}
+use native.Mathlib.Decide.{decLt, ℕ-discrete}
 use Rattle.maths.specs.Sums.{sum, Σ}
 
 pub sum-zero : (f : ℕ → ℕ) → sum f 0 ≡ 0
@@ -63,6 +64,16 @@ sum-one f (suc n) i l =
     elim (decLt i n) [
       | yes h ↦ omega (arith, sum-one f n i h)
       | no h ↦ let e : i ≡ n = omega arith in rw e (omega arith)
+    ]
+
+-- the sum where one value has changed
+pub sum-but : (f g : ℕ → ℕ) (n i : ℕ) → i < n → ((j : ℕ) → j < n → j ≢ i → g j ≡ f j) → sum g n + f i ≡ sum f n + g i
+unfolding sum
+sum-but f g zero i l same = absurd (omega arith)
+sum-but f g (suc n) i l same =
+    elim (ℕ-discrete i n) [
+      | yes e ↦ rw e (omega (arith, sum-ext g f n (λ j h. same j (omega arith) (omega arith))))
+      | no h ↦ omega (arith, same n (omega arith) (omega arith), sum-but f g n i (omega arith) (λ j k d. same j (omega arith) d))
     ]
 
 -- a sum of more values is no smaller

@@ -91,6 +91,16 @@ module _ (f : ℕ → Bool) where
           let back = rest (d ∙ e) in
           (omega (arith, back .0), back .1)
 
+  -- and it is the lowest
+  pub lowest-first : (n k : ℕ) → lowest n f ≡ suc k → (i : ℕ) → i < k → f (suc i) ≡ false
+  lowest-first n k e = by (lowest k f) refl
+    where
+      by : (m : ℕ) → lowest k f ≡ m → (i : ℕ) → i < k → f (suc i) ≡ false
+      by zero d = lowest-none k d
+      by (suc m) d =
+          let late : suc m ≡ suc k = sym (lowest-stays k n m (omega (arith, lowest-holds n k e .0)) d) ∙ e in
+          absurd (omega (arith, lowest-holds k m d .0))
+
   -- of the first n none, then none found
   pub lowest-empty : (n : ℕ) → ((i : ℕ) → i < n → f (suc i) ≡ false) → lowest n f ≡ 0
   unfolding lowest

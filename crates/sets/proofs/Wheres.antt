@@ -91,6 +91,11 @@ pub where-same : (f g : ℕ → Bool) (n : ℕ) → ((i : ℕ) → i < n → f i
 where-same f g zero h = where-none f ∙ sym (where-none g)
 where-same f g (suc n) h = rw (where-more f n, where-more g n, where-same f g n (λ i l. h i (omega arith)), h n (omega arith))
 
+-- of none is f true
+pub where-empty : (f : ℕ → Bool) (n : ℕ) → ((i : ℕ) → i < n → f i ≡ false) → setWhere f n ≡ 0
+where-empty f zero h = where-none f
+where-empty f (suc n) h = rw (where-more f n, where-empty f n (λ i l. h i (omega arith)), h n (omega arith))
+
 -- a set is the set of its members
 pub where-members : (w x : ℕ) → x < 2 ^ w → setWhere (has x) w ≡ x
 where-members w x h = ext w (setWhere (has x) w) x (where-lt (has x) w) h (λ p l. where-bit (has x) w p l ∙ has-bit x p)

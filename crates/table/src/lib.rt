@@ -5,15 +5,19 @@ ghost use Rattle.table.specs.Limits.{mostTasks, mostCores, mostPartition
 ghost use Rattle.table.specs.Refused.{sizesRefusal, rowRefusal, rowsRefusal, refusal};
 ghost use Rattle.table.specs.Tasks.{noTask, emptyTable};
 
+#[repr(C)]
 pub struct Cores(pub u32);
 
+#[repr(C)]
 pub struct Partitions(pub u32);
 
+#[repr(C)]
 pub struct Platform {
     pub cores: Cores,
     pub partitions: Partitions,
 }
 
+#[repr(C)]
 pub struct Task {
     pub d: u32,
     pub t: u32,
@@ -22,6 +26,7 @@ pub struct Task {
 }
 
 // Rows from n on are not the table's.
+#[repr(C)]
 pub struct Table {
     pub platform: Platform,
     pub n: usize,
@@ -29,6 +34,7 @@ pub struct Table {
 }
 
 // Number 0 is no refusal.
+#[repr(C)]
 pub struct Refusal {
     pub number: u32,
     pub row: usize,

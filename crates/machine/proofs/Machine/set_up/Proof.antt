@@ -1,4 +1,4 @@
-use mathlib.Core.Path.{_≡_, _∙_, ap}
+use mathlib.Core.Path.{_≡_, sym, _∙_, ap}
 use borrow.Author.Tests.{eq-eqb, ne-eqb}
 use Rattle.table.specs.declared.Refusal.{Refusal}
 use Rattle.table.specs.Refused.{refusal}
@@ -18,7 +18,7 @@ unfolding setUp
 returns c =
     let r = c .before .before .before in
     let t = r .before .args .t in
-    let e : refusal t .number ≡ 0 = cc in
+    let e : refusal t .number ≡ 0 = ap (λ (x : Refusal). x .number) (sym (r .refused .ensures)) ∙ c .before .if1 .taken in
     rw (r .refused .ensures, c .fresh .ensures) (simp (eq-eqb (refusal t .number) 0 e))
 
 returns-2 : tie.Need-returns-2

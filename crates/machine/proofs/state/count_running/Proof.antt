@@ -1,5 +1,5 @@
-use Prim.Native.Nat.{ℕ, suc, _+_, _-_, _<_, _≤_}
-use mathlib.Core.Path.{_≡_, sym, _∙_}
+use Prim.Native.Nat.{_+_, _-_, _≤_}
+use mathlib.Core.Path.{_≡_, _∙_}
 use native.Mathlib.Omega.{arith}
 use Rattle.machine.proofs.StateLoops.{runningTo, running-none, running-more, running-le, running-all}
 use borrow.Author.Needs.{needs}

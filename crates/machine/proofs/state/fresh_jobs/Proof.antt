@@ -1,5 +1,5 @@
-use Prim.Native.Nat.{suc, _≤_, _-_, min}
-use mathlib.Core.Path.{_≡_, refl, sym, _∙_, ap}
+use Prim.Native.Nat.{_≤_, _-_, min}
+use mathlib.Core.Path.{_≡_, _∙_}
 use native.Mathlib.Omega.{arith}
 use Rattle.maths.specs.Tasks.{tabulate}
 use Rattle.maths.proofs.Arrays.{upTo, up-none, up-more, up-most}

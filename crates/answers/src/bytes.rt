@@ -1,0 +1,91 @@
+// Numbers in bytes, the low byte first. Every function here takes any place, and reads 0 and writes nothing where it does not lie within the bytes.
+
+// Room for the longest answer that is not a text.
+pub type Answer = [u8; 304];
+
+// The next byte of standard input, or 0 at its end.
+pub fn kind() -> u8 {
+    let mut one = [0u8; 1];
+    io::read_full(libc::STDIN_FILENO, &mut one);
+    first(&one)
+}
+
+fn first(b: &[u8; 1]) -> u8 {
+    b[0]
+}
+
+fn wide(x: u8) -> u32 {
+    x as u32
+}
+
+fn wider(x: u32) -> u64 {
+    x as u64
+}
+
+pub fn count(x: usize) -> u64 {
+    x as u64
+}
+
+pub fn size(x: u64) -> usize {
+    x as usize
+}
+
+pub fn flag(x: bool) -> u32 {
+    if x { 1 } else { 0 }
+}
+
+pub fn word(b: &[u8], at: usize) -> u32 {
+    if b.len() < 4 {
+        return 0;
+    }
+    if b.len() - 4 < at {
+        return 0;
+    }
+    wide(b[at]) | (wide(b[at + 1]) << 8) | (wide(b[at + 2]) << 16) | (wide(b[at + 3]) << 24)
+}
+
+pub fn word64(b: &[u8], at: usize) -> u64 {
+    if b.len() < 8 {
+        return 0;
+    }
+    if b.len() - 8 < at {
+        return 0;
+    }
+    wider(word(b, at)) | (wider(word(b, at + 4)) << 32)
+}
+
+// The bits of a signed number: those of x, or 2^64 - 1 less those of -1 - x.
+pub fn bits(x: i64) -> u64 {
+    if x < 0 {
+        let y = !x;
+        return u64::MAX - (y as u64);
+    }
+    x as u64
+}
+
+pub fn put(b: &mut Answer, at: usize, x: u32) {
+    if at < 301 {
+        b[at] = (x % 256) as u8;
+        b[at + 1] = (x / 256 % 256) as u8;
+        b[at + 2] = (x / 65536 % 256) as u8;
+        b[at + 3] = (x / 16777216) as u8;
+    }
+}
+
+pub fn put64(b: &mut Answer, at: usize, x: u64) {
+    if at < 297 {
+        put(b, at, (x % 4294967296) as u32);
+        put(b, at + 4, (x / 4294967296) as u32);
+    }
+}
+
+fn send_part(b: &[u8], n: usize) {
+    if n <= b.len() {
+        io::write_all(libc::STDOUT_FILENO, &b[..n]);
+    }
+}
+
+// Writes the first n bytes of an answer.
+pub fn send(b: &Answer, n: usize) {
+    send_part(b, n);
+}

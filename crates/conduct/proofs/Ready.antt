@@ -1,0 +1,111 @@
+-- Steps 1, 2 and 4 of an accepted tick leave a good state.
+use Prim.Native.Nat.{ℕ, suc, _<_, _≤_, zero-le}
+use mathlib.Core.Path.{_≡_, refl, _∙_}
+use mathlib.Core.Bool.{Bool, true, false, cond}
+use mathlib.Core.Logic.{_≢_}
+use native.Mathlib.Omega.{arith}
+use native.Mathlib.Nat.{le-refl, le-trans}
+use Rattle.maths.proofs.Sums.{sum-mono}
+use Rattle.table.specs.declared.Task.{Task}
+use Rattle.table.specs.Good.{GoodRow}
+use Rattle.table.specs.Limits.{mostTasks}
+use Rattle.table.specs.Tasks.{P, τ, C}
+use Rattle.sets.specs.Sets.{bit, Within}
+use Rattle.sets.specs.Families.{Apart}
+use Rattle.sets.specs.TaskSets.{hasTask}
+use Rattle.sets.proofs.Bits.{bit-zero}
+use Rattle.sets.proofs.Holders.{apart-within}
+use Rattle.machine.specs.declared.Stage.{Stage}
+use Rattle.machine.specs.declared.Stage.the-variants.{Idle, Waiting, Running}
+use Rattle.machine.specs.declared.Job.{Job}
+use Rattle.machine.specs.declared.Machine.{Machine}
+use Rattle.machine.specs.Jobs.{isIdle, isRunning, noJob, job, runs, running}
+use Rattle.machine.specs.Steps.{forTasks, older, awaiting}
+use Rattle.machine.specs.Tick.{readied}
+use Rattle.machine.proofs.Jobs.{for-past, finishedJob, readiedJob, readied-pass, readied-job, readied-table}
+use Rattle.machine.proofs.StateParts.{GoodJob, GoodState, when-idle}
+use Rattle.conduct.proofs.Accepted.{Accepted}
+use Rattle.conduct.proofs.Taken.{taken}
+use Rattle.conduct.proofs.Lives.{one}
+
+abbrev jobOf : Stage → ℕ → ℕ → ℕ → Job
+jobOf s a r h = record { stage = s; age = a; ran = r; held = h }
+
+module _ {p : ℕ} {τ : Task} (row : GoodRow p τ) where
+  -- a job that has not run C ticks
+  older-good : (s : Stage) (a r h : ℕ) → GoodJob p τ (jobOf s a r h) → (isRunning s ≡ true → older τ (jobOf s a r h) .ran ≢ C τ)
+      → GoodJob p τ (older τ (jobOf s a r h))
+  older-good Idle a r h g w =
+      record { age = omega arith; stage = record { rests = record { none = g .stage .rests .none; unrun = g .stage .rests .unrun }; old = omega arith } }
+  older-good Waiting a r h g w = record { age = omega arith; stage = record { none = g .stage .none; unrun = g .stage .unrun } }
+  older-good Running a r h g w =
+      record {
+        age = omega arith;
+        stage = record { short = omega (arith, w refl); younger = omega (arith, w refl); count = g .stage .count; cache = g .stage .cache };
+      }
+
+  finished-good : (f : Bool) (j : Job) → GoodJob p τ j → (isRunning (j .stage) ≡ true → f ≡ false → older τ j .ran ≢ C τ)
+      → GoodJob p τ (finishedJob τ f j)
+  finished-good true j g w = record { age = omega arith; stage = record { rests = record { none = refl; unrun = refl }; old = omega arith } }
+  finished-good false j g w = older-good (j .stage) (j .age) (j .ran) (j .held) g (λ e. w e refl)
+
+  released-good : (r : Bool) (j : Job) → GoodJob p τ j → (r ≡ true → isIdle (j .stage) ≡ true) → GoodJob p τ (cond r (awaiting j) j)
+  released-good true j g w =
+      let i = when-idle g (w refl) in
+      record { age = zero-le; stage = record { none = i .rests .none; unrun = i .rests .unrun } }
+  released-good false j g w = g
+
+-- a job gives up what it held, or keeps it, and takes no core
+held-less : (τ : Task) (r f : Bool) (j : Job) → Within (readiedJob τ r f j .held) (j .held)
+held-less τ true true j q = omega (arith, bit-zero q)
+held-less τ true false j q = le-refl (bit (j .held) q)
+held-less τ false true j q = omega (arith, bit-zero q)
+held-less τ false false j q = le-refl (bit (j .held) q)
+
+runs-less : (τ : Task) (r f : Bool) (j : Job) → one (isRunning (readiedJob τ r f j .stage)) ≤ one (isRunning (j .stage))
+runs-less τ true f j = zero-le
+runs-less τ false true j = zero-le
+runs-less τ false false j = le-refl (one (isRunning (j .stage)))
+
+module _ (m : Machine) (R F : ℕ) (g : GoodState m) (a : Accepted m R F) where
+  module _ (i : ℕ) (l : i < m .table .n) where
+    few : suc i ≤ mostTasks
+    few = omega (arith, g .table .few)
+
+    is : job (readied m R F) (suc i) ≡ readiedJob (τ (m .table) (suc i)) (hasTask R (suc i)) (hasTask F (suc i)) (job m (suc i))
+    is = readied-job m (suc i) (omega arith) l few R F
+
+    each-good : GoodJob (P (m .table)) (τ (m .table) (suc i)) (job (readied m R F) (suc i))
+    each-good =
+        let row = g .table .row i l in
+        let t = taken m R F (g .table .few) a (suc i) (omega arith) l in
+        rw is (released-good row (hasTask R (suc i)) _ (finished-good row (hasTask F (suc i)) (job m (suc i)) (g .each i l) (t .notOver)) (t .free))
+
+    within : Within (job (readied m R F) (suc i) .held) (job m (suc i) .held)
+    within = rw is (held-less (τ (m .table) (suc i)) (hasTask R (suc i)) (hasTask F (suc i)) (job m (suc i)))
+
+    fewer : one (runs (readied m R F) (suc i)) ≤ one (runs m (suc i))
+    fewer = rw is (runs-less (τ (m .table) (suc i)) (hasTask R (suc i)) (hasTask F (suc i)) (job m (suc i)))
+
+  cores : running (readied m R F) ≤ running m
+  unfolding running
+  cores = rw (readied-table m R F) (sum-mono _ _ (m .table .n) fewer)
+
+  past : (i : ℕ) → m .table .n ≤ i → i < mostTasks → job (readied m R F) (suc i) ≡ noJob
+  past i h l = rw (readied-pass m R F) (for-past _ m (suc i) (omega arith) l ∙ g .noJobs i h l)
+
+  apart : Apart (m .table .n) (λ i. job (readied m R F) (suc i) .held)
+  apart = apart-within (λ i. job m (suc i) .held) (λ i. job (readied m R F) (suc i) .held) (m .table .n) within (g .apart)
+
+  pub readied-good : GoodState (readied m R F)
+  unfolding forTasks
+  readied-good =
+      record {
+        accepted = g .accepted;
+        table = g .table;
+        noTasks = g .noTasks;
+        noJobs = past;
+        each = each-good;
+        apart = apart;
+        cores = le-trans cores (g .cores);
+      }

@@ -1,0 +1,19 @@
+-- What the theory of lives sees of a machine: of a task its deadline, period and longest run, of a job its life.
+use Prim.Native.Nat.{ℕ}
+use Rattle.table.specs.declared.Task.{Task}
+use Rattle.table.specs.Tasks.{D, T, C}
+use Rattle.machine.specs.declared.Stage.{Stage}
+use Rattle.machine.specs.declared.Stage.the-variants.{Idle, Waiting, Running}
+use Rattle.machine.specs.declared.Job.{Job}
+use Rattle.lives.specs.Life.{Row, Life, idle, waiting, running}
+
+abbrev pub row : Task → Row
+row τ = record { D = D τ; T = T τ; C = C τ }
+
+abbrev pub lifeIn : Stage → ℕ → ℕ → Life
+lifeIn Idle age ran = idle age
+lifeIn Waiting age ran = waiting age
+lifeIn Running age ran = running age ran
+
+abbrev pub life : Job → Life
+life j = lifeIn (j .stage) (j .age) (j .ran)

@@ -1,0 +1,4 @@
+pub mod Sequences
+pub mod Promise
+pub mod Calls
+pub mod Time

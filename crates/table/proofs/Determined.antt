@@ -1,0 +1,19 @@
+-- Two results that a public function's statement allows are equal.
+use Prim.Native.Nat.{ℕ}
+use mathlib.Core.Path.{_≡_}
+use Rattle.maths.proofs.Determined.{determined}
+use Rattle.table.specs.declared.Platform.{Platform}
+use Rattle.table.specs.declared.Task.{Task}
+use Rattle.table.specs.declared.Table.{Table}
+use Rattle.table.specs.declared.Refusal.{Refusal}
+use Rattle.table.specs.Tasks.{noTask, emptyTable}
+use Rattle.table.specs.Refused.{refusal}
+
+pub none-determined : (r s : Task) → r ≡ noTask → s ≡ noTask → r ≡ s
+none-determined = determined noTask
+
+pub empty-determined : (p : Platform) (r s : Table) → r ≡ emptyTable p → s ≡ emptyTable p → r ≡ s
+empty-determined p = determined (emptyTable p)
+
+pub refused-determined : (t : Table) (r s : Refusal) → r ≡ refusal t → s ≡ refusal t → r ≡ s
+refused-determined t = determined (refusal t)

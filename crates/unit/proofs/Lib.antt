@@ -1,0 +1,12 @@
+pub mod Cut
+pub mod Data
+pub mod Demands
+pub mod Fill
+pub mod First
+pub mod Judged
+pub mod Lends
+pub mod Moved
+pub mod Renewed
+pub mod Rows
+pub mod Tables
+pub mod Walk

@@ -1,0 +1,31 @@
+use contract.Running.{givenOf, tables, tablesOf}
+use denote.Triple.Spec.{tripleOf}
+use denote.Triple.Table.{entered, cited}
+use Rattle.unit.specs.declared.raw.RawSetUp.{RawSetUp}
+use Rattle.unit.specs.Raw.{rawSetUp}
+use Rattle.unit.proofs.raw.RawMachine as T
+use Rattle.unit.proofs.raw.RawMachine.Laws as T′
+use Rattle.unit.proofs.raw.RawSetUp as S
+use Rattle.unit.proofs.raw.RawMachine.set_up as work
+use Rattle.unit.proofs.raw.RawMachine.set_up.Symbol as work-def
+use Rattle.unit.proofs.raw.RawMachine.set_up.Symbol.{name as #work}
+use Rattle.unit.proofs.raw.RawMachine.set_up.Met as work-thm
+use Rattle.unit.proofs.Renewed.{meets}
+use Rattle.unit.proofs.Rows.{TableOf}
+use Rattle.unit.proofs.table_of.Symbol as table-of-def
+use Rattle.unit.proofs.table_of.Symbol.{name as #table-of}
+use Rattle.unit.proofs.table_of.Met as table-of-thm
+use Rattle.unit.proofs.raw.gorsetumble_set_up as set-up
+use Rattle.unit.proofs.raw.gorsetumble_set_up.Key.{name as #set-up}
+use Rattle.unit.proofs.raw.gorsetumble_set_up.Statement as stated
+use Rattle.unit.proofs.raw.gorsetumble_set_up.Code as code
+
+pub gorsetumble-set-up-spec : {M : Type 1} → stated.statement M
+unfolding code.routine tablesOf
+gorsetumble-set-up-spec 𝓤 H 𝓜 𝓖 𝓡 =
+    entered 𝓤 H (tripleOf 𝓤 H (𝓖 .A) set-up.signature (set-up.spec 𝓤 H (𝓖 .A) (𝓜 .mem) (𝓡 .run)))
+    (tables 𝓤 H 𝓜 𝓡 code.env .C) (tables 𝓤 H 𝓜 𝓡 code.env .Λ) #set-up code.function (code.unfolded 𝓤 H 𝓜 𝓡)
+    (meets (record { type = T.the-type; laws = T′.the-laws; plain = T′.the-plain }) (S.the-type .name) RawSetUp (λ s. s .refused) (λ s. s .machine) (S.the-type .to-one) rawSetUp #work
+    𝓤 H (𝓖 .A) (givenOf 𝓤 H 𝓜 𝓖) (𝓜 .mem) (𝓡 .run) (tablesOf 𝓤 H 𝓜 (tables 𝓤 H 𝓜 𝓡 code.env))
+    (cited 𝓤 H (TableOf 𝓤 H (𝓖 .A) (𝓜 .mem) (𝓡 .run)) 𝓜 𝓡 code.env #table-of table-of-def.routine code.calls-unit·table-of (table-of-thm.met 𝓤 H 𝓜 𝓖 𝓡))
+    (cited 𝓤 H (tripleOf 𝓤 H (𝓖 .A) work.signature (work.spec 𝓤 H (𝓖 .A) (𝓜 .mem) (𝓡 .run))) 𝓜 𝓡 code.env #work work-def.routine code.calls-unit·raw·RawMachine·set-up (work-thm.met 𝓤 H 𝓜 𝓖 𝓡)))

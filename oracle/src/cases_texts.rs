@@ -1,0 +1,162 @@
+//! Cases of texts: readers (P, K, R), the call from C (C), the programs' whole work (M, N), writers (W).
+
+use crate::cases_admission::{refused_values, table_values};
+use crate::counts::Counts;
+use crate::draw::texts::{platform_rows, spoiled, task_rows, three, Three};
+use crate::draw::{states, tables};
+use crate::files::Pair;
+use crate::machine::digest;
+use crate::programs::{admit, ticks, verdict};
+use crate::records::Value;
+use crate::rng::Rng;
+use crate::table::ROWS;
+use crate::texts::{put, read, write as text_of, Form, PLATFORM, TASKS, TICKS};
+use std::fs;
+use std::io;
+use std::path::Path;
+
+struct Run {
+    rng: Rng,
+    counts: Counts,
+    pair: Pair,
+}
+
+/// The bytes of a buffer before it is written to.
+const BEFORE: u8 = 0xa5;
+
+fn numbers(of: impl IntoIterator<Item = u64>) -> Vec<Value> {
+    of.into_iter().map(|x| Value::Number(x.into())).collect()
+}
+
+fn bytes(text: &[u8]) -> Value {
+    Value::Bytes(text.to_vec())
+}
+
+impl Run {
+    /// A reader's answer: the two numbers of a platform, or the count of rows and a digest of them. The digest of a tasks text is of
+    /// the 32 rows that a table holds, those past n being 0.
+    fn reader(&mut self, kind: u8, form: &Form, text: &[u8]) -> io::Result<()> {
+        let rows = read(form, text);
+        let refused = rows.as_ref().err().copied();
+        let name = char::from(kind);
+        match refused {
+            None => self.counts.add(format!("{name} good")),
+            Some(r) if r.at == text.len() as u64 => self.counts.add(format!("{name} cut short")),
+            Some(_) => self.counts.add(format!("{name} a byte that cannot stand there")),
+        }
+        let rows = rows.unwrap_or_default();
+        let mut answer = refused_values(refused).to_vec();
+        if kind == b'P' {
+            let row = rows.first().cloned().unwrap_or(vec![0, 0]);
+            answer.extend(numbers(row.iter().map(|&x| u64::from(x))));
+        } else {
+            let flat = rows.concat().into_iter();
+            let digest = if kind == b'K' { digest(flat.chain(std::iter::repeat(0)).take(4 * ROWS)) } else { digest(flat) };
+            let digest = if refused.is_some() { 0 } else { digest };
+            answer.extend(numbers([rows.len() as u64, digest.into()]));
+        }
+        self.pair.write(kind, &[bytes(text)], &answer)
+    }
+
+    fn count_listing(&mut self, name: &str, listing: &[u8]) {
+        let says = String::from_utf8_lossy(listing).into_owned();
+        let outcome = match says.strip_prefix("refused,row\r\n") {
+            Some(row) => format!("refused {}", row.split(',').next().unwrap()),
+            None => "listed".to_string(),
+        };
+        self.counts.add(format!("{name} {outcome}"));
+    }
+
+    /// The programs' work and the call from C, on the same texts.
+    fn programs(&mut self, given: &Three) -> io::Result<()> {
+        let (platform, tasks) = (given.platform.as_deref(), given.tasks.as_deref());
+        let file = |text: Option<&[u8]>| [Value::Number(text.is_some().into()), bytes(text.unwrap_or_default())];
+        let mut case = [file(platform), file(tasks)].concat();
+        let listing = admit(platform, tasks);
+        self.count_listing("M", &listing);
+        self.pair.write(b'M', &case, &[bytes(&listing)])?;
+        case.push(bytes(&given.ticks));
+        let listing = ticks(platform, tasks, &given.ticks);
+        self.count_listing("N", &listing);
+        self.pair.write(b'N', &case, &[bytes(&listing)])?;
+        let (platform, tasks) = (platform.unwrap_or_default(), tasks.unwrap_or_default());
+        let answer = verdict(platform, tasks);
+        self.counts.add(if answer > 100 { "C not admitted".to_string() } else { format!("C {answer}") });
+        self.pair.write(b'C', &[bytes(platform), bytes(tasks)], &numbers([answer.into()]))
+    }
+
+    /// Platform and tasks texts of a table, good or not, into buffers that are long enough or just too short.
+    fn writers(&mut self) -> io::Result<()> {
+        let rng = &mut self.rng;
+        let mut table = if rng.once_in(2) { states::busy_table(rng) } else { tables::wild(rng) };
+        table.n = table.n.min(ROWS as u64);
+        let texts = [text_of(&PLATFORM, &platform_rows(&table)), text_of(&TASKS, &task_rows(&table))];
+        let mut buffers = texts.clone().map(|text| {
+            let length = rng.pick(&[text.len(), text.len(), text.len() + 1, text.len() + 30, text.len() - 1, 0, text.len() / 2]);
+            vec![BEFORE; if rng.once_in(2) { text.len() } else { length }]
+        });
+        let mut case = table_values(&table);
+        case.extend(numbers(buffers.iter().map(|b| b.len() as u64)));
+        let refused = put(&texts, &mut buffers).err();
+        self.counts.add(refused.map_or("W written".to_string(), |r| format!("W refused {}", r.number)));
+        let mut answer = refused_values(refused).to_vec();
+        answer.extend(buffers.map(|b| bytes(&b)));
+        self.pair.write(b'W', &case, &answer)
+    }
+}
+
+/// Writes about `count_of` cases; the answer is false if some outcome is met too seldom to say that it was tried.
+pub fn write(count_of: u64, seed: u64, pair: Pair) -> io::Result<bool> {
+    let mut run = Run { rng: Rng::new(seed), counts: Counts::default(), pair };
+    while run.pair.written < count_of {
+        let given = three(&mut run.rng);
+        run.programs(&given)?;
+        for (kind, form, text) in
+            [(b'P', &PLATFORM, given.platform), (b'K', &TASKS, given.tasks), (b'R', &TICKS, Some(given.ticks))]
+        {
+            let text = spoiled(&mut run.rng, form, text.unwrap_or_default());
+            run.reader(kind, form, &text)?;
+        }
+        run.writers()?;
+    }
+    println!("{} cases of texts:", run.pair.written);
+    run.counts.print();
+    run.pair.close()?;
+    let mut wanted =
+        ["C 0", "C 15", "C not admitted", "M listed", "N listed", "W written", "W refused 16"].map(String::from).to_vec();
+    wanted.extend(
+        [15, 1, 2, 3, 4, 5, 6, 7, 8].iter().flat_map(|number| [format!("M refused {number}"), format!("N refused {number}")]),
+    );
+    for kind in ["P", "K", "R"] {
+        wanted.extend(["good", "cut short", "a byte that cannot stand there"].map(|what| format!("{kind} {what}")));
+    }
+    let rare = run.counts.rarer(&wanted.iter().map(String::as_str).collect::<Vec<_>>(), count_of / 2000);
+    if !rare.is_empty() {
+        println!("met too seldom: {}", rare.join(", "));
+    }
+    Ok(rare.is_empty())
+}
+
+/// Writes folders 1, 2, .. with the files that the programs read, their standard input, and what "admit" and "ticks" must write.
+pub fn folders(count_of: u64, seed: u64, folder: &str) -> io::Result<()> {
+    let mut rng = Rng::new(seed);
+    for at in 1..=count_of {
+        let given = three(&mut rng);
+        let inside = Path::new(folder).join(at.to_string());
+        let files = inside.join("files");
+        fs::create_dir_all(&files)?;
+        for (name, text) in [("platform.csv", &given.platform), ("tasks.csv", &given.tasks)] {
+            match text {
+                Some(text) => fs::write(files.join(name), text)?,
+                // a file that cannot be read counts as missing
+                None if rng.once_in(2) => fs::create_dir(files.join(name))?,
+                None => {}
+            }
+        }
+        fs::write(inside.join("stdin"), &given.ticks)?;
+        let (platform, tasks) = (given.platform.as_deref(), given.tasks.as_deref());
+        fs::write(inside.join("admit"), admit(platform, tasks))?;
+        fs::write(inside.join("ticks"), ticks(platform, tasks, &given.ticks))?;
+    }
+    Ok(())
+}

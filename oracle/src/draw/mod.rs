@@ -1,0 +1,6 @@
+//! Generators. All of them draw from one seeded source, so a run can be repeated.
+
+pub mod reports;
+pub mod states;
+pub mod tables;
+pub mod texts;

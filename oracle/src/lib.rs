@@ -1,0 +1,16 @@
+//! The second program for the rules of document 01: written from that document alone, apart from the proved one, and plainly.
+
+pub mod admission;
+pub mod cases_admission;
+pub mod cases_machine;
+pub mod cases_texts;
+pub mod counts;
+pub mod draw;
+pub mod files;
+pub mod machine;
+pub mod programs;
+pub mod records;
+pub mod rng;
+pub mod search;
+pub mod table;
+pub mod texts;

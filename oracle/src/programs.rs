@@ -1,0 +1,176 @@
+//! The two programs, and the call from C.
+
+use crate::admission::{full, quick};
+use crate::machine::Machine;
+use crate::table::{Refused, Row, Table};
+use crate::texts::{read, Form, PLATFORM, TASKS, TICKS};
+
+/// A program takes no text that is longer.
+pub const LONGEST: usize = 60_000;
+
+/// A text that a program has read, or not: the rows, or refusal 15.
+fn taken(form: &Form, text: Option<&[u8]>) -> Result<Vec<Vec<u32>>, Refused> {
+    match text {
+        Some(text) if text.len() <= LONGEST => read(form, text),
+        _ => Err(Refused { number: 15, at: 0 }),
+    }
+}
+
+fn table(platform: &[Vec<u32>], tasks: &[Vec<u32>]) -> Table {
+    let rows: Vec<Row> = tasks.iter().map(|row| Row { d: row[0], t: row[1], c: row[2], a: row[3] }).collect();
+    Table { n: rows.len() as u64, m: platform[0][0], p: platform[0][1], rows }
+}
+
+fn lines(header: &str, rows: impl IntoIterator<Item = String>) -> Vec<u8> {
+    let mut text = format!("{header}\r\n");
+    for row in rows {
+        text += &format!("{row}\r\n");
+    }
+    text.into_bytes()
+}
+
+fn refused(r: Refused) -> Vec<u8> {
+    lines("refused,row", [format!("{},{}", r.number, r.at)])
+}
+
+/// What "admit" writes. `None` is a file that is missing.
+pub fn admit(platform: Option<&[u8]>, tasks: Option<&[u8]>) -> Vec<u8> {
+    let texts = taken(&PLATFORM, platform).and_then(|p| Ok((p, taken(&TASKS, tasks)?)));
+    let answer = match texts {
+        Ok((platform, tasks)) => full(&table(&platform, &tasks)),
+        Err(r) => return refused(r),
+    };
+    if let Some(r) = answer.refused {
+        return refused(r);
+    }
+    let rows = (1..).zip(&answer.margins).map(|(k, margin)| format!("{k},{margin},{}", u32::from(*margin > 0)));
+    lines("task,margin,pass", rows)
+}
+
+/// What "ticks" writes.
+pub fn ticks(platform: Option<&[u8]>, tasks: Option<&[u8]>, reports: &[u8]) -> Vec<u8> {
+    let texts = || {
+        let platform = taken(&PLATFORM, platform)?;
+        let tasks = taken(&TASKS, tasks)?;
+        let reports = taken(&TICKS, Some(reports))?;
+        Ok((Machine::fresh(&table(&platform, &tasks))?, reports))
+    };
+    let (mut machine, reports) = match texts() {
+        Ok(all) => all,
+        Err(r) => return refused(r),
+    };
+    let mut before = 0;
+    let mut rows = vec![];
+    for report in reports {
+        match machine.tick(report[0], report[1]) {
+            Ok((next, sets)) => {
+                rows.push(format!("{before},0,{},{},{}", sets.finished, sets.late, sets.started));
+                machine = next;
+                before += 1;
+            }
+            Err(r) => rows.push(format!("{before},{},0,0,0", r.number)),
+        }
+    }
+    lines("tick,refused,finished,late,started", rows)
+}
+
+/// What the board's start-up code gets for the bytes of two texts.
+pub fn verdict(platform: &[u8], tasks: &[u8]) -> u32 {
+    let texts = read(&PLATFORM, platform).and_then(|p| Ok((p, read(&TASKS, tasks)?)));
+    let answer = match texts {
+        Ok((platform, tasks)) => quick(&table(&platform, &tasks)),
+        Err(r) => return r.number,
+    };
+    match answer.refused {
+        Some(r) => r.number,
+        None if answer.admitted => 0,
+        None => 100 + answer.first as u32,
+    }
+}
+
+#[cfg(test)]
+mod tests {
+    use super::*;
+    use crate::texts::write;
+
+    fn platform(m: u32, p: u32) -> Vec<u8> {
+        write(&PLATFORM, &[vec![m, p]])
+    }
+
+    fn tasks(rows: &[[u32; 4]]) -> Vec<u8> {
+        write(&TASKS, &rows.iter().map(|row| row.to_vec()).collect::<Vec<_>>())
+    }
+
+    fn admit_says(p: &[u8], t: &[u8]) -> String {
+        String::from_utf8(admit(Some(p), Some(t))).unwrap()
+    }
+
+    const P1: [[u32; 4]; 3] = [[40, 50, 2, 1], [60, 60, 3, 2], [80, 100, 4, 2]];
+    const P8: [[u32; 4]; 4] = [[6, 6, 2, 1], [8, 8, 3, 2], [9, 9, 2, 2], [12, 12, 2, 1]];
+
+    #[test]
+    fn p1_to_p6() {
+        let listing = "task,margin,pass\r\n1,232,1\r\n2,268,1\r\n3,370,1\r\n";
+        assert_eq!(admit_says(&platform(2, 4), &tasks(&P1)), listing);
+        for (row, says, number) in [
+            ([6, 6, 2, 1], "1,0,0", 101),
+            ([7, 7, 2, 1], "1,1,1", 0),
+            ([5, 5, 2, 1], "1,-1,0", 101),
+            ([2, 2, 2, 1], "1,-4,0", 101),
+            ([6, 6, 2, 0], "1,0,0", 101),
+        ] {
+            let listing = format!("task,margin,pass\r\n{says}\r\n");
+            assert_eq!(admit_says(&platform(1, 1), &tasks(&[row])), listing);
+            assert_eq!(verdict(&platform(1, 1), &tasks(&[row])), number);
+        }
+    }
+
+    #[test]
+    fn p8() {
+        let reports = [[15, 0], [0, 0], [0, 1], [0, 2], [0, 4], [1, 8], [0, 8], [1, 0]].map(|r| r.to_vec());
+        let listing = ticks(Some(&platform(3, 4)), Some(&tasks(&P8)), &write(&TICKS, &reports));
+        let expected = "tick,refused,finished,late,started\r\n0,0,0,0,3\r\n1,0,0,0,0\r\n2,0,1,0,4\r\n3,0,2,0,8\r\n\
+                        4,0,4,0,0\r\n5,12,0,0,0\r\n5,0,8,0,0\r\n6,0,0,0,1\r\n";
+        assert_eq!(String::from_utf8(listing).unwrap(), expected);
+    }
+
+    #[test]
+    fn refused_texts_and_tables() {
+        let good = tasks(&P1);
+        assert_eq!(admit_says(b"", b""), "refused,row\r\n15,0\r\n");
+        assert_eq!(admit_says(&platform(2, 4), b""), "refused,row\r\n15,0\r\n");
+        assert_eq!(admit_says(&platform(2, 4), b"D,T,C,A\r\n"), "refused,row\r\n1,0\r\n");
+        assert_eq!(admit_says(&platform(2, 1), &good), "refused,row\r\n8,2\r\n");
+        // the platform's form first, then the tasks', and only then numbers
+        assert_eq!(admit_says(b"cores", b"x"), "refused,row\r\n15,5\r\n");
+        assert_eq!(admit_says(&platform(0, 0), b"D,x"), "refused,row\r\n15,2\r\n");
+        assert_eq!(admit(None, Some(&good)), admit(Some(&platform(2, 4)), None));
+        let listing = ticks(Some(&platform(0, 0)), Some(&good), b"released,finished\r\n1");
+        assert_eq!(listing, b"refused,row\r\n15,20\r\n");
+        let listing = ticks(Some(&platform(0, 0)), Some(&good), b"released,finished\r\n");
+        assert_eq!(listing, b"refused,row\r\n2,0\r\n");
+        let listing = ticks(Some(&platform(2, 4)), Some(&good), b"released,finished\r\n");
+        assert_eq!(listing, b"tick,refused,finished,late,started\r\n");
+    }
+
+    #[test]
+    fn sixty_thousand_bytes() {
+        // a header of 9 bytes and 6,665 rows of 9 are 59,994 bytes
+        let mut rows = vec![[1, 2, 3, 4]; 6665];
+        rows[0][3] = 4_444_444;
+        let long = tasks(&rows);
+        assert_eq!(long.len(), LONGEST);
+        assert_eq!(admit_says(&platform(2, 4), &long), "refused,row\r\n1,0\r\n");
+        let longer = [&long[..], b"1"].concat();
+        assert_eq!(admit_says(&platform(2, 4), &longer), "refused,row\r\n15,0\r\n");
+        assert_eq!(verdict(&platform(2, 4), &longer), 15);
+        assert_eq!(verdict(&platform(2, 4), &[&long[..], b"1,1,1,1\r\n"].concat()), 1);
+    }
+
+    #[test]
+    fn thirty_two_and_thirty_three_tasks() {
+        let rows = vec![[65_535, 65_535, 1, 0]; 33];
+        assert_eq!(verdict(&platform(1, 1), &tasks(&rows[..32])), 0);
+        assert_eq!(verdict(&platform(1, 1), &tasks(&rows)), 1);
+    }
+}

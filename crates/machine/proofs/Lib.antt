@@ -5,3 +5,6 @@ pub mod StateLoops
 pub mod StateFresh
 pub mod TickTurns
 pub mod TickRules
+pub mod TickAllowed
+pub mod TickLook
+pub mod TickJudge

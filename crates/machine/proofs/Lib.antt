@@ -8,3 +8,10 @@ pub mod TickRules
 pub mod TickAllowed
 pub mod TickLook
 pub mod TickJudge
+pub mod TickFive
+pub mod TickStarts
+pub mod TickMoved
+pub mod TickReady
+pub mod TickWalk
+pub mod TickSteps
+pub mod TickCode

@@ -30,7 +30,7 @@ use Rattle.machine.proofs.StateTest.{state-good, state-test, job-test, 
 use Rattle.machine.proofs.StateLoops.{goodTask, zeroEntry, running-all}
 use Rattle.machine.proofs.TickTurns.{or-none}
 use Rattle.machine.proofs.TickAllowed.{allowed-of, AllAllowed, none-first, first-none}
-use Rattle.machine.proofs.TickLook.{lookTo, looked, looks-good, noneGiven}
+use Rattle.machine.proofs.TickLook.{lookTo, Looked, looked, looks-good, noneGiven}
 
 -- the pass over the entries past n, up to k
 abbrev pub zeroTo : Machine → ℕ → Bool
@@ -94,14 +94,19 @@ module _ (m : Machine) (released finished past : ℕ) (len : length (m .table .r
   pub found-good : foundGood found past (M (m .table)) ≡ goodState m
   found-good = same-truth _ _ to-good from-good
 
+  -- what the pass knows of a good state
+  pub found-looked : goodState m ≡ true → Looked m released finished (m .table .n) found
+  found-looked e =
+      let good = both (found .good) _ (both (found .good && eqb past 0) _ (from-good e) .0) in
+      let is = all-of (state-good m len e .table .few) in
+      let g : lookTo m released finished (m .table .n) .good ≡ true = rw (← is) (good .0) in
+      rw is (looked m released finished (m .table .n) g)
+
   -- where the pass found nothing given, no refusal is
-  clear-none : GoodState m → found .good ≡ true → found .clear ≡ true → firstGiven (tickRules m released finished) ≡ refuses 0 0
-  clear-none g w clear =
-      let is = all-of (g .table .few) in
-      let h : lookTo m released finished (m .table .n) .good ≡ true = rw (← is) w in
-      let c : lookTo m released finished (m .table .n) .clear ≡ true = rw (← is) clear in
-      let all = both (ltb (bitOr released finished) (2 ^ (m .table .n))) _ (sym (looked m released finished (m .table .n) h .clear) ∙ c) in
-      none-first m released finished g (ltb-true _ _ (all .0))
+  clear-none : goodState m ≡ true → found .clear ≡ true → firstGiven (tickRules m released finished) ≡ refuses 0 0
+  clear-none e clear =
+      let all = both (ltb (bitOr released finished) (2 ^ (m .table .n))) _ (sym (found-looked e .clear) ∙ clear) in
+      none-first m released finished (state-good m len e) (ltb-true _ _ (all .0))
       (λ i l. allowed-of _ _ _ _ (every-holds (noneGiven m released finished) (m .table .n) (all .1) i l))
 
   pub found-refusal : foundRefusal found past m released finished ≡ tickRefusal m released finished
@@ -111,14 +116,13 @@ module _ (m : Machine) (released finished past : ℕ) (len : length (m .table .r
       by : (b : Bool) → goodState m ≡ b → (c : Bool) → found .clear ≡ c
           → cond b (cond c (refuses 0 0) (firstGiven (tickRules m released finished))) (refuses 14 0)
           ≡ cond b (firstGiven (tickRules m released finished)) (refuses 14 0)
-      by true w true x =
-          let good = both (found .good) _ (both (found .good && eqb past 0) _ (from-good w) .0) in
-          sym (clear-none (state-good m len w) (good .0) x)
+      by true w true x = sym (clear-none w x)
       by true w false x = refl
       by false w c x = refl
 
 -- what an accepted tick is
 pub record Accepts (m : Machine) (released finished : ℕ) : Type 0 where
+  pub test : goodState m ≡ true
   pub good : GoodState m
   pub each : AllAllowed m released finished good
 
@@ -130,5 +134,5 @@ accepts m released finished len e = by (goodState m) refl (eqb-true _ _ e)
     by : (b : Bool) → goodState m ≡ b → cond b (firstGiven (tickRules m released finished)) (refuses 14 0) .number ≡ 0 → Accepts m released finished
     by true w z =
         let g = state-good m len w in
-        record { good = g; each = first-none m released finished g z }
+        record { test = w; good = g; each = first-none m released finished g z }
     by false w z = absurd (omega arith)

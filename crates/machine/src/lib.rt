@@ -3,6 +3,7 @@ mod judging;
 mod moving;
 mod refusing;
 mod state;
+mod tick;
 
 use table::Refusal;
 use table::Table;

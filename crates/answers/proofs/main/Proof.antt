@@ -1,12 +1,15 @@
 use borrow.Author.Needs.{needs}
-use Rattle.answers.proofs.answer_all.Statement.{statement}
-use Rattle.answers.proofs.answer_all.Tie as tie
+use Rattle.answers.proofs.main.Statement.{statement}
+use Rattle.answers.proofs.main.Tie as tie
 
 abbrev Inv-loop : tie.InvT-loop
-Inv-loop turns₀ turns = Unit {0}
+Inv-loop step₀ room₀ turns₀ step room turns = Unit {0}
 
 abbrev μ-loop : tie.MeasureT-loop
-μ-loop turns₀ turns = turns
+μ-loop step₀ room₀ turns₀ step room turns = turns
+
+nothing-requires : tie.Need-nothing-requires Inv-loop μ-loop
+nothing-requires c κs = search needs
 
 loop-holds : tie.Need-loop-holds Inv-loop μ-loop
 loop-holds c = search needs
@@ -29,12 +32,13 @@ returns c = search needs
 returns-2 : tie.Need-returns-2 Inv-loop μ-loop
 returns-2 c = search needs
 
-pub answer-all-spec : {M : Type 1} → statement M
-answer-all-spec =
+pub main-spec : {M : Type 1} → statement M
+main-spec =
     tie.close
     (tie.spec
     Inv-loop
     μ-loop
+    nothing-requires
     loop-holds
     answer-one-requires
     sub-turns

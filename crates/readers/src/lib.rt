@@ -169,7 +169,7 @@ pub struct PlatformRead {
 }
 
 impl PlatformRead {
-    fn bad(offset: usize) -> PlatformRead
+    pub fn bad(offset: usize) -> PlatformRead
         ensures { λ r. ⌜ r ≡ platformRead (refused offset) ⌝ }
     {
         PlatformRead {
@@ -215,7 +215,7 @@ pub struct TableRead {
 }
 
 impl TableRead {
-    fn bad(offset: usize) -> TableRead
+    pub fn bad(offset: usize) -> TableRead
         ensures { λ r. ⌜ r ≡ tableRead noPlatform (refused offset) ⌝ }
     {
         TableRead {

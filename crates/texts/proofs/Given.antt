@@ -1,0 +1,70 @@
+-- From what the readers answer back to the texts.
+use Prim.Native.Nat.{ℕ, _<_, _≤_}
+use mathlib.Core.Path.{_≡_, refl, sym, ap, _∙_}
+use mathlib.Core.Bool.{Bool, true, false}
+use mathlib.Core.List.{List, map}
+use native.Mathlib.Omega.{arith}
+use borrow.Author.Tests.{le-leb, lt-leb}
+use lib.ListN.{length}
+use Rattle.maths.proofs.Padded.{length-padded}
+use Rattle.forms.specs.Forms.{Form}
+use Rattle.forms.specs.Reads.{Answer, found, refused}
+use Rattle.forms.specs.Reader.{read}
+use Rattle.table.specs.declared.Refusal.{Refusal}
+use Rattle.table.specs.declared.Platform.{Platform}
+use Rattle.table.specs.declared.Table.{Table}
+use Rattle.table.specs.Limits.{mostTasks}
+use Rattle.table.specs.Tasks.{noTask}
+use Rattle.readers.specs.declared.PlatformRead.{PlatformRead}
+use Rattle.readers.specs.declared.TableRead.{TableRead}
+use Rattle.readers.specs.Inputs.{taskOf, tableOf, platformRead, tableRead}
+use Rattle.texts.specs.Given.{given, longest, taken}
+
+module _ (F : Form) (there : Bool) (bytes : List ℕ) where
+  pub taken-missing : there ≡ false → taken F there bytes ≡ refused 0
+  unfolding taken
+  taken-missing e = rw e
+
+  pub taken-long : there ≡ true → longest < length bytes → taken F there bytes ≡ refused 0
+  unfolding taken
+  taken-long e h = rw (e, lt-leb (length bytes) longest h)
+
+  pub taken-read : there ≡ true → length bytes ≤ longest → taken F there bytes ≡ read F bytes
+  unfolding taken
+  taken-read e h = rw (e, le-leb (length bytes) longest h)
+
+-- the platform, and then the table
+module _ {A : Type 0} (bad : Refusal → A) (good : Table → A) where
+  pub platform-bad : (x y : Answer (List (List ℕ))) (p : PlatformRead) → p ≡ platformRead x → (p .refused .number ≡ 0 → ⊥)
+      → given bad good x y ≡ bad (p .refused)
+  platform-bad (found rows) y p e h = absurd (h (ap (λ (q : PlatformRead). q .refused .number) e))
+  platform-bad (refused offset) y p e h = ap (λ (q : PlatformRead). bad (q .refused)) (sym e)
+
+  module _ (p : PlatformRead) (none : p .refused .number ≡ 0) (t : TableRead) where
+    pub table-bad : (x y : Answer (List (List ℕ))) → p ≡ platformRead x → t ≡ tableRead (p .platform) y → (t .refused .number ≡ 0 → ⊥)
+        → given bad good x y ≡ bad (t .refused)
+    table-bad (refused offset) y e f h = absurd (no (sym none ∙ ap (λ (q : PlatformRead). q .refused .number) e))
+      where
+        no : _≡_ {A = ℕ} 0 15 → ⊥
+        no e = omega arith
+    table-bad (found platform) (found rows) e f h = absurd (h (ap (λ (q : TableRead). q .refused .number) f))
+    table-bad (found platform) (refused offset) e f h = ap (λ (q : TableRead). bad (q .refused)) (sym f)
+
+    pub table-good : (x y : Answer (List (List ℕ))) → p ≡ platformRead x → t ≡ tableRead (p .platform) y → t .refused .number ≡ 0
+        → given bad good x y ≡ good (t .table)
+    table-good (refused offset) y e f h = absurd (no (sym none ∙ ap (λ (q : PlatformRead). q .refused .number) e))
+      where
+        no : _≡_ {A = ℕ} 0 15 → ⊥
+        no e = omega arith
+    table-good (found platform) (refused offset) e f h = absurd (no (sym h ∙ ap (λ (q : TableRead). q .refused .number) f))
+      where
+        no : _≡_ {A = ℕ} 0 15 → ⊥
+        no e = omega arith
+    table-good (found platform) (found rows) e f h =
+        ap (λ (q : TableRead). good (q .table)) (sym (f ∙ ap (λ (q : PlatformRead). tableRead (q .platform) (found rows)) e))
+
+-- a table that was read has room for 32 rows
+pub rows-32 : (platform : Platform) (y : Answer (List (List ℕ))) (t : TableRead) → t ≡ tableRead platform y → length (t .table .rows) ≡ mostTasks
+unfolding tableOf
+rows-32 platform (found rows) t e = ap (λ (q : TableRead). length (q .table .rows)) e ∙ length-padded noTask mostTasks (map taskOf rows)
+rows-32 platform (refused offset) t e = ap (λ (q : TableRead). length (q .table .rows)) e

@@ -1,0 +1,24 @@
+-- Two texts give a table, or the refusal of the first that is not of its form: the platform is read whole first. Programs take a text only
+-- if it is there and not over 60,000 bytes; any other is refused with 15 and 0.
+use Prim.Native.Nat.{ℕ}
+use mathlib.Core.Bool.{Bool, cond, _&&_}
+use mathlib.Core.List.{List, []}
+use lib.Dec.{leb}
+use lib.ListN.{length, getD}
+use Rattle.forms.specs.Forms.{Form}
+use Rattle.forms.specs.Reads.{Answer, found, refused}
+use Rattle.forms.specs.Reader.{read}
+use Rattle.table.specs.declared.Refusal.{Refusal}
+use Rattle.table.specs.declared.Table.{Table}
+use Rattle.readers.specs.Inputs.{badText, platformOf, tableOf}
+
+abbrev pub given : {A : Type 0} → (Refusal → A) → (Table → A) → Answer (List (List ℕ)) → Answer (List (List ℕ)) → A
+given bad good (refused offset) tasks = bad (badText offset)
+given bad good (found platform) (refused offset) = bad (badText offset)
+given bad good (found platform) (found rows) = good (tableOf (platformOf (getD platform 0 [])) rows)
+
+abbrev pub longest : ℕ
+longest = 60000
+
+unfoldable pub taken : Form → Bool → List ℕ → Answer (List (List ℕ))
+taken F there bytes = cond (there && leb (length bytes) longest) (read F bytes) (refused 0)

@@ -1,0 +1,96 @@
+// Whole texts in, whole text out: what the programs write, and the quick verdict for the board's start-up code in C.
+ghost use mathlib.Core.Path.{_≡_};
+ghost use Rattle.forms.specs.Forms.{platformForm, tasksForm};
+ghost use Rattle.readers.specs.Inputs.{platformRead, tableRead};
+ghost use Rattle.writers.specs.Written.{Wrote};
+ghost use Rattle.texts.specs.Given.{taken};
+ghost use Rattle.texts.specs.Admit.{admitText};
+ghost use Rattle.texts.specs.Verdict.{verdict};
+use readers::PlatformRead;
+use readers::TableRead;
+use table::Platform;
+use writers::Written;
+
+// The longest text that a program takes.
+const LONGEST: usize = 60_000;
+
+fn take_platform(there: bool, s: &[u8]) -> PlatformRead
+    ensures { λ r. ⌜ r ≡ platformRead (taken platformForm there (now (s .entry))) ⌝ }
+{
+    if !there {
+        return PlatformRead::bad(0);
+    }
+    if LONGEST < s.len() {
+        return PlatformRead::bad(0);
+    }
+    readers::read_platform(s)
+}
+
+fn take_tasks(there: bool, s: &[u8], platform: Platform) -> TableRead
+    ensures { λ r. ⌜ r ≡ tableRead platform (taken tasksForm there (now (s .entry))) ⌝ }
+{
+    if !there {
+        return TableRead::bad(0);
+    }
+    if LONGEST < s.len() {
+        return TableRead::bad(0);
+    }
+    readers::read_tasks(s, platform)
+}
+
+// What the program "admit" writes.
+pub fn admit(
+    platform_there: bool,
+    platform: &[u8],
+    tasks_there: bool,
+    tasks: &[u8],
+    out: &mut [u8],
+) -> Written
+    ensures { λ r. ⌜ Wrote (admitText «platform_there» (now (platform .entry)) «tasks_there» (now (tasks .entry))) (now (out .entry)) r (now (out .exit)) ⌝ }
+{
+    let p = take_platform(platform_there, platform);
+    if p.refused.number != 0 {
+        let r = p.refused;
+        return writers::write_refused(r, out);
+    }
+    let held = p.platform;
+    let t = take_tasks(tasks_there, tasks, held);
+    if t.refused.number != 0 {
+        let r = t.refused;
+        return writers::write_refused(r, out);
+    }
+    let table = t.table;
+    let n = table.n;
+    let a = admission::full_answer(table);
+    if a.refused.number != 0 {
+        let r = a.refused;
+        return writers::write_refused(r, out);
+    }
+    let margins = a.margins;
+    writers::write_margins(n, margins, out)
+}
+
+// The quick verdict: 0 for admitted, 100 and the first task that does not pass, or the number of the refusal.
+#[no_mangle]
+pub extern "C" fn admitted_by_texts(platform: &[u8], tasks: &[u8]) -> u32
+    ensures { λ r. ⌜ r ≡ verdict (now (platform .entry)) (now (tasks .entry)) ⌝ }
+{
+    let p = readers::read_platform(platform);
+    if p.refused.number != 0 {
+        return p.refused.number;
+    }
+    let held = p.platform;
+    let t = readers::read_tasks(tasks, held);
+    if t.refused.number != 0 {
+        return t.refused.number;
+    }
+    let table = t.table;
+    let a = admission::quick_answer(table);
+    if a.refused.number != 0 {
+        return a.refused.number;
+    }
+    if a.first == 0 {
+        return 0;
+    }
+    100 + (a.first as u32)
+}

@@ -22,6 +22,7 @@ use Rattle.machine.specs.declared.Job.{Job}
 use Rattle.machine.specs.declared.Machine.{Machine}
 use Rattle.machine.specs.Jobs.{noJob, job, idlePartitions}
 use Rattle.machine.specs.Steps.{forTasks, older, passed, ended, finish, awaiting, release, begun, start}
+pub use Rattle.machine.specs.Passes.{finishedJob, readiedJob}
 use Rattle.machine.specs.Tick.{readied}
 
 abbrev machineOf : Table → List Job → Machine
@@ -74,13 +75,6 @@ for-for f g m =
     by i l (no n) =
         for-past f (forTasks g m) (suc i) (rw (for-table g m) (omega arith)) l
         ∙ (for-past g m (suc i) (omega arith) l ∙ sym (for-past (λ k j. f k (g k j)) m (suc i) (omega arith) l))
-
--- the job of a task after steps 1 and 2, and after step 4, from its job before and whether it finished and was released
-abbrev pub finishedJob : Task → Bool → Job → Job
-finishedJob τ finished j = cond finished (ended (older τ j)) (older τ j)
-
-abbrev pub readiedJob : Task → Bool → Bool → Job → Job
-readiedJob τ released finished j = cond released (awaiting (finishedJob τ finished j)) (finishedJob τ finished j)
 
 -- one pass for steps 1 and 2, and one for steps 1, 2 and 4
 pub finished-pass : (m : Machine) (finished : ℕ)

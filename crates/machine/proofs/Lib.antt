@@ -4,3 +4,15 @@ pub mod StateParts
 pub mod StateTest
 pub mod StateLoops
 pub mod StateFresh
+pub mod TickTurns
+pub mod TickRules
+pub mod TickAllowed
+pub mod TickLook
+pub mod TickJudge
+pub mod TickFive
+pub mod TickStarts
+pub mod TickMoved
+pub mod TickReady
+pub mod TickWalk
+pub mod TickSteps
+pub mod TickCode

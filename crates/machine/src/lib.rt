@@ -1,5 +1,9 @@
 // The machine: a table and the job of each task, moved on by ticks under blocking FP_CA.
+mod judging;
+mod moving;
+mod refusing;
 mod state;
+mod tick;
 
 use table::Refusal;
 use table::Table;
@@ -40,4 +44,34 @@ pub struct Answer {
 pub struct Ticked {
     pub machine: Machine,
     pub answer: Answer,
+}
+
+// The lowest task of which refusals 10 to 13 are given, or 0.
+struct Given {
+    ten: usize,
+    eleven: usize,
+    twelve: usize,
+    thirteen: usize,
+}
+
+// What a tick's first pass found so far: the state is good, and refusals 9 to 13 are not given; how many jobs run and what they hold,
+// and how many of them go on running after step 2, and what those hold.
+struct Look {
+    good: bool,
+    clear: bool,
+    running: u32,
+    held: u64,
+    stays: u32,
+    busy: u64,
+}
+
+// What a tick's second pass made so far: the job that it came to last; whether step 5 goes on, with how many running jobs and which
+// idle partitions; and the sets to answer.
+struct Walk {
+    job: Job,
+    goes: bool,
+    running: u32,
+    idle: u64,
+    late: u32,
+    started: u32,
 }

@@ -8,7 +8,7 @@ ghost use Rattle.table.specs.Limits.{mostTasks, mostPartitions};
 ghost use Rattle.table.specs.Tasks.{M, P, τ, C};
 ghost use Rattle.table.specs.Good.{Good};
 ghost use Rattle.sets.specs.Families.{allApart};
-ghost use Rattle.machine.specs.Jobs.{isIdle, isRunning, noJob, job, running, busy};
+ghost use Rattle.machine.specs.Jobs.{isIdle, isWaiting, isRunning, noJob, job, running, busy};
 ghost use Rattle.machine.specs.Fresh.{trimmed, fresh, setUp};
 ghost use Rattle.machine.specs.Conditions.{isNoTask, isNoJob, hasNothing, goodStage, goodJob, goodState};
 use crate::Job;
@@ -30,8 +30,39 @@ impl Stage {
         }
     }
 
+    pub fn is_waiting(self) -> bool
+        ensures { λ r. ⌜ r ≡ isWaiting self ⌝ }
+    {
+        match self {
+            Stage::Idle => false,
+            Stage::Waiting => true,
+            Stage::Running => false,
+        }
+    }
+
+    pub fn is_running(self) -> bool
+        ensures { λ r. ⌜ r ≡ isRunning self ⌝ }
+    {
+        match self {
+            Stage::Idle => false,
+            Stage::Waiting => false,
+            Stage::Running => true,
+        }
+    }
+
+    // 0 for an idle job.
+    pub(crate) fn mark(self) -> u32
+        ensures { λ r. ⌜ r ≡ cond (isIdle self) 0 1 ⌝ }
+    {
+        match self {
+            Stage::Idle => 0,
+            Stage::Waiting => 1,
+            Stage::Running => 1,
+        }
+    }
+
     // 1 for a job that runs.
-    fn runs(self) -> u32
+    pub(crate) fn runs(self) -> u32
         ensures { λ r. ⌜ r ≡ cond (isRunning self) 1 0 ⌝ }
     {
         match self {
@@ -43,7 +74,7 @@ impl Stage {
 }
 
 impl Job {
-    fn none() -> Job
+    pub(crate) fn none() -> Job
         ensures { λ r. ⌜ r ≡ noJob ⌝ }
     {
         Job {
@@ -109,7 +140,7 @@ impl Job {
     }
 
     // What is asked of the job of a task, on a cache of p partitions.
-    fn is_good(self, p: Partitions, task: Task) -> bool
+    pub(crate) fn is_good(self, p: Partitions, task: Task) -> bool
         requires { ⌜ (p .0 ≤ mostPartitions) × (1 ≤ C task) ⌝ }
         ensures { λ r. ⌜ r ≡ goodJob (p .0) task self ⌝ }
     {
@@ -117,11 +148,13 @@ impl Job {
             return false;
         }
         let s = self.stage;
-        match s {
-            Stage::Idle => self.idles_well(),
-            Stage::Waiting => self.has_nothing(),
-            Stage::Running => self.runs_well(p, task),
+        if s.is_running() {
+            return self.runs_well(p, task);
         }
+        if s.is_idle() {
+            return self.idles_well();
+        }
+        self.has_nothing()
     }
 }
 
@@ -142,7 +175,7 @@ fn is_no_task(t: Task) -> bool
 }
 
 // How many entries tasks 1 to n have: a refused table may say more than there are.
-fn entries(n: usize) -> usize
+pub fn entries(n: usize) -> usize
     ensures { λ r. ⌜ r ≡ min n mostTasks ⌝ }
 {
     if n < Table::MOST { n } else { Table::MOST }

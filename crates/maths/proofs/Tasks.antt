@@ -28,6 +28,16 @@ pub lowest-more : (f : ℕ → Bool) (n : ℕ) → lowest (n + 1) f ≡ orElse (
 unfolding lowest
 lowest-more f n = rw (add-one n)
 
+or-zero : (x : ℕ) → orElse x 0 ≡ x
+or-zero zero = refl
+or-zero (suc x) = refl
+
+-- it depends on the tasks asked alone
+pub lowest-ext : (f g : ℕ → Bool) (n : ℕ) → ((i : ℕ) → i < n → f (suc i) ≡ g (suc i)) → lowest n f ≡ lowest n g
+unfolding lowest
+lowest-ext f g zero h = refl
+lowest-ext f g (suc n) h = rw (lowest-ext f g n (λ i l. h i (omega arith)), h n (omega arith))
+
 module _ (f : ℕ → Bool) where
   -- none of the first n, and not the next
   pub lowest-past : (n : ℕ) → lowest n f ≡ 0 → f (suc n) ≡ false → lowest (n + 1) f ≡ 0
@@ -90,6 +100,22 @@ module _ (f : ℕ → Bool) where
       by (suc m) d =
           let late : suc m ≡ suc k = sym (lowest-stays k n m (omega (arith, lowest-holds n k e .0)) d) ∙ e in
           absurd (omega (arith, lowest-holds k m d .0))
+
+  -- of the first n none, then none found
+  pub lowest-empty : (n : ℕ) → ((i : ℕ) → i < n → f (suc i) ≡ false) → lowest n f ≡ 0
+  unfolding lowest
+  lowest-empty zero h = refl
+  lowest-empty (suc n) h = rw (lowest-empty n (λ i l. h i (omega arith)), h n (omega arith))
+
+  -- what comes after changes nothing where it holds of none there
+  pub lowest-beyond : (n m : ℕ) → n ≤ m → ((i : ℕ) → n ≤ i → i < m → f (suc i) ≡ false) → lowest m f ≡ lowest n f
+  unfolding lowest
+  lowest-beyond n zero l h = let z : n ≡ 0 = omega arith in rw z
+  lowest-beyond n (suc m) l h =
+      elim (decLe n m) [
+        | yes k ↦ rw (h m k (omega arith)) (or-zero (lowest m f) ∙ lowest-beyond n m k (λ i a b. h i a (omega arith)))
+        | no k ↦ let z : n ≡ suc m = omega arith in rw z
+      ]
 
   -- that each passes is that none fails
   pub every-lowest : (n : ℕ) → every n f ≡ eqb (lowest n (λ k. not (f k))) 0

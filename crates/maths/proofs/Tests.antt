@@ -43,3 +43,9 @@ both false b e = absurd (true≢false (sym e))
 pub false-of : (b : Bool) → (b ≡ true → ⊥) → b ≡ false
 false-of true h = absurd (h refl)
 false-of false h = refl
+
+-- two tests that hold together are one
+pub same-truth : (a b : Bool) → (a ≡ true → b ≡ true) → (b ≡ true → a ≡ true) → a ≡ b
+same-truth true b f g = sym (f refl)
+same-truth false true f g = g refl
+same-truth false false f g = refl

@@ -67,6 +67,12 @@ pub without-or : (x y : ℕ) → bitAnd x y ≡ 0 → without (bitOr x y) y ≡ 
 without-or x y e =
     same (without (bitOr x y) y) x (λ p. omega (arith, bit-without (bitOr x y) y p, bit-or x y p, disjoint-bit x y p e))
 
+-- two sets are taken away one after the other
+pub without-both : (x y z : ℕ) → without x (bitOr y z) ≡ without (without x y) z
+without-both x y z =
+    same (without x (bitOr y z)) (without (without x y) z)
+    (λ p. omega (arith, bit-without x (bitOr y z) p, bit-or y z p, bit-without (without x y) z p, bit-without x y p, bit-lt x p))
+
 -- a number of p places is within the set of all below p
 pub within-below : (p x : ℕ) → x < 2 ^ p → Within x (below p)
 within-below p x h q = by (decLt q p)

@@ -1,7 +1,7 @@
 -- Laws of the sets that are built place by place, and of the sets of tasks among them.
 use Prim.Native.Nat.{ℕ, zero, suc, _+_, _-_, _*_, _%_, _^_, _<_, _≤_}
 use mathlib.Core.Path.{_≡_, refl, sym, _∙_, ap}
-use mathlib.Core.Bool.{Bool, true, false, cond}
+use mathlib.Core.Bool.{Bool, true, false, cond, _||_}
 use mathlib.Core.Logic.{_⊎_, inl, inr}
 use native.Mathlib.Nat.{not-suc-le-zero, le-of-suc-le-suc, eq-or-lt-of-le, pow-suc, one-mul, le-refl}
 use native.Mathlib.Omega.{arith}
@@ -14,7 +14,7 @@ use Rattle.maths.specs.Sums.{sum}
 use Rattle.maths.proofs.Sums.{sum-zero, sum-suc}
 use Rattle.sets.specs.Sets.{bit, has, size, setWhere}
 use Rattle.sets.specs.TaskSets.{hasTask, taskBit, tasksWhere}
-use Rattle.sets.proofs.Bits.{bit-lt, bit-one, bit-none, has-bit, bit-above, bit-or, bit-pow-same, bit-pow-other}
+use Rattle.sets.proofs.Bits.{bit-lt, bit-cases, bit-one, bit-none, has-bit, bit-above, bit-or, bit-pow-same, bit-pow-other}
 use Rattle.sets.proofs.Same.{ext}
 use Rattle.sets.proofs.Sizes.{size-none, size-more, size-wide}
 
@@ -110,6 +110,24 @@ pub has-task : (x i : ℕ) → hasTask x (i + 1) ≡ has x i
 has-task x i =
     let e : i + 1 - 1 ≡ i = omega arith in
     rw (lt-ltb 0 (i + 1) (omega arith), e)
+
+-- a union names what one of the two names
+has-or : (x y p : ℕ) → has (bitOr x y) p ≡ (has x p || has y p)
+has-or x y p = by (bit-cases x p) (bit-cases y p)
+  where
+    by : (bit x p ≡ 0) ⊎ (bit x p ≡ 1) → (bit y p ≡ 0) ⊎ (bit y p ≡ 1) → has (bitOr x y) p ≡ (has x p || has y p)
+    by (inl a) (inl b) = rw (bit-none x p a, bit-none y p b) (bit-none (bitOr x y) p (omega (arith, bit-or x y p)))
+    by (inl a) (inr b) = rw (bit-none x p a, bit-one y p b) (bit-one (bitOr x y) p (omega (arith, bit-or x y p)))
+    by (inr a) b = rw (bit-one x p a) (bit-one (bitOr x y) p (omega (arith, bit-or x y p, bit-lt y p)))
+
+pub task-or : (x y k : ℕ) → hasTask (bitOr x y) k ≡ (hasTask x k || hasTask y k)
+task-or x y zero = refl
+task-or x y (suc i) = rw (lt-ltb 0 (suc i) (omega arith)) (has-or x y (suc i - 1))
+
+-- a number below 2 ^ n names no task above n
+pub task-above : (n x k : ℕ) → x < 2 ^ n → n < k → hasTask x k ≡ false
+task-above n x zero l h = absurd (omega arith)
+task-above n x (suc i) l h = rw (lt-ltb 0 (suc i) (omega arith)) (bit-none x (suc i - 1) (bit-above n x (suc i - 1) l (omega arith)))
 
 module _ (f : ℕ → Bool) (i : ℕ) where
   pub tasks-or : i < 32 → f (i + 1) ≡ true → bitOr (tasksWhere f i) (taskBit (i + 1)) ≡ tasksWhere f (i + 1)

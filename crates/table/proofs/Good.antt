@@ -1,5 +1,5 @@
 -- A table that is not refused is good.
-use Prim.Native.Nat.{ℕ, zero, suc, _+_, _<_, _≤_}
+use Prim.Native.Nat.{ℕ, zero, suc, _+_, _<_, _≤_, suc-le-suc}
 use mathlib.Core.Path.{_≡_, refl, sym, _∙_, ap}
 use mathlib.Core.Bool.{Bool, true, false, cond}
 use mathlib.Core.List.{List, [], _∷_}
@@ -14,12 +14,12 @@ use Rattle.maths.proofs.Tests.{not-given, not-outside, positive}
 use Rattle.table.specs.declared.Task.{Task}
 use Rattle.table.specs.declared.Table.{Table}
 use Rattle.table.specs.declared.Refusal.{Refusal}
-use Rattle.table.specs.Limits.{mostTasks}
+use Rattle.table.specs.Limits.{mostTasks, mostCores, mostPartitions}
 use Rattle.table.specs.Tasks.{noTask, M, P, τ, D, T, C, A}
-use Rattle.table.specs.Refused.{tableRules, rowRules, rowRefusal, rowsFrom, refusal}
+use Rattle.table.specs.Refused.{tableRules, sizesRefusal, rowRules, rowRefusal, rowsFrom, refusal}
 use Rattle.table.specs.Good.{Good, GoodRow}
 
-good-row : (p : ℕ) (τ : Task) → rowRefusal p τ ≡ 0 → GoodRow p τ
+pub good-row : (p : ℕ) (τ : Task) → rowRefusal p τ ≡ 0 → GoodRow p τ
 unfolding rowRules
 good-row p τ e =
     let r4 = not-given _ 3 _ e in
@@ -50,35 +50,70 @@ rows-good p k (τ ∷ τs) e i l = by (eqb (rowRefusal p τ) 0) refl i l (λ q j
     by true w (suc i) l rec e = rec e i (le-of-suc-le-suc l)
     by false w i l rec e = absurd (eqb-false (rowRefusal p τ) 0 w e)
 
--- no rule of the table itself is given, and none of a row
-passed : (t : Table) → refusal t .number ≡ 0 → (first tableRules t ≡ 0) × (rowsFrom (P t) 1 (take (t .n) (t .rows)) .number ≡ 0)
-unfolding refusal
-passed t e = by (eqb (first tableRules t) 0) refl e
-  where
-    by : (b : Bool) → eqb (first tableRules t) 0 ≡ b
-        → cond b (rowsFrom (P t) 1 (take (t .n) (t .rows))) (record { number = first tableRules t; row = 0 }) .number ≡ 0
-        → (first tableRules t ≡ 0) × (rowsFrom (P t) 1 (take (t .n) (t .rows)) .number ≡ 0)
-    by true w e = (eqb-true (first tableRules t) 0 w, e)
-    by false w e = absurd (eqb-false (first tableRules t) 0 w e)
+rows-none : (p k : ℕ) (τs : List Task) → ((i : ℕ) → i < length τs → rowRefusal p (getD τs i noTask) ≡ 0) → rowsFrom p k τs .number ≡ 0
+unfolding rowsFrom
+rows-none p k [] h = refl
+rows-none p k (τ ∷ τs) h =
+    rw (eq-eqb (rowRefusal p τ) 0 (h 0 (omega arith))) (rows-none p (suc k) τs (λ i l. h (suc i) (suc-le-suc l)))
 
-pub good-of : (t : Table) → length (t .rows) ≡ mostTasks → refusal t .number ≡ 0 → Good t
+-- no rule of the table itself is given, and none of a row
+passed : (t : Table) → refusal t .number ≡ 0 → (sizesRefusal t ≡ 0) × (rowsFrom (P t) 1 (take (t .n) (t .rows)) .number ≡ 0)
+unfolding refusal
+passed t e = by (eqb (sizesRefusal t) 0) refl e
+  where
+    by : (b : Bool) → eqb (sizesRefusal t) 0 ≡ b
+        → cond b (rowsFrom (P t) 1 (take (t .n) (t .rows))) (record { number = sizesRefusal t; row = 0 }) .number ≡ 0
+        → (sizesRefusal t ≡ 0) × (rowsFrom (P t) 1 (take (t .n) (t .rows)) .number ≡ 0)
+    by true w e = (eqb-true (sizesRefusal t) 0 w, e)
+    by false w e = absurd (eqb-false (sizesRefusal t) 0 w e)
+
+-- what the sizes are where refusals 1 to 3 are not given
+pub record GoodSizes (t : Table) : Type 0 where
+  pub some : 1 ≤ t .n
+  pub few : t .n ≤ mostTasks
+  pub core : 1 ≤ M t
+  pub cores : M t ≤ mostCores
+  pub partition : 1 ≤ P t
+  pub partitions : P t ≤ mostPartitions
+
+pub good-sizes : (t : Table) → sizesRefusal t ≡ 0 → GoodSizes t
 unfolding tableRules
-good-of t len e =
-    let both = passed t e in
-    let r1 = not-given _ 0 _ (both .0) in
+good-sizes t e =
+    let r1 = not-given _ 0 _ e in
     let r2 = not-given _ 1 _ (r1 .1) in
     let r3 = not-given _ 2 _ (r2 .1) in
     let n = not-outside _ _ _ (r1 .0) in
     let m = not-outside _ _ _ (r2 .0) in
     let p = not-outside _ _ _ (r3 .0) in
-    record {
-      some = n .0;
-      few = n .1;
-      core = m .0;
-      cores = m .1;
-      partition = p .0;
-      partitions = p .1;
-      row = λ i l.
-          good-row (P t) (τ t (suc i))
-          (rw (getD-take (t .n) (t .rows) i noTask l) at (rows-good (P t) 1 (take (t .n) (t .rows)) (both .1) i (simp length-take (omega arith))));
-    }
+    record { some = n .0; few = n .1; core = m .0; cores = m .1; partition = p .0; partitions = p .1 }
+
+-- that a table is not refused is that its sizes are not and that no row is
+module _ (t : Table) (len : length (t .rows) ≡ mostTasks) where
+  pub sizes-accepted : refusal t .number ≡ 0 → sizesRefusal t ≡ 0
+  sizes-accepted e = passed t e .0
+
+  pub row-accepted : refusal t .number ≡ 0 → (i : ℕ) → i < t .n → rowRefusal (P t) (τ t (suc i)) ≡ 0
+  row-accepted e i l =
+      let few : t .n ≤ mostTasks = good-sizes t (passed t e .0) .few in
+      rw (getD-take (t .n) (t .rows) i noTask l) at (rows-good (P t) 1 (take (t .n) (t .rows)) (passed t e .1) i (simp length-take (omega arith)))
+
+  pub accepted : sizesRefusal t ≡ 0 → ((i : ℕ) → i < t .n → rowRefusal (P t) (τ t (suc i)) ≡ 0) → refusal t .number ≡ 0
+  unfolding refusal
+  accepted e h =
+      rw (eq-eqb (sizesRefusal t) 0 e) (rows-none (P t) 1 (take (t .n) (t .rows)) (λ i l. rw (getD-take (t .n) (t .rows) i noTask (in-n i l)) (h i (in-n i l))))
+    where
+      in-n : (i : ℕ) → i < length (take (t .n) (t .rows)) → i < t .n
+      in-n i l = omega (arith, simp length-take at l)
+
+  pub good-of : refusal t .number ≡ 0 → Good t
+  good-of e =
+      let s = good-sizes t (sizes-accepted e) in
+      record {
+        some = s .some;
+        few = s .few;
+        core = s .core;
+        cores = s .cores;
+        partition = s .partition;
+        partitions = s .partitions;
+        row = λ i l. good-row (P t) (τ t (suc i)) (row-accepted e i l);
+      }

@@ -21,6 +21,9 @@ tableRules =
     ∷ rule 3 (λ t. outside 1 mostPartitions (P t))
     ∷ []
 
+abbrev pub sizesRefusal : Table → ℕ
+sizesRefusal t = first tableRules t
+
 -- of one row, on a cache of p partitions
 unfoldable pub rowRules : ℕ → List (Rule Task)
 rowRules p =
@@ -47,6 +50,6 @@ rowsRefusal t = rowsFrom (P t) 1 (take (t .n) (t .rows))
 
 unfoldable pub refusal : Table → Refusal
 refusal t =
-    cond (eqb (first tableRules t) 0)
+    cond (eqb (sizesRefusal t) 0)
     (rowsRefusal t)
-    (record { number = first tableRules t; row = 0 })
+    (record { number = sizesRefusal t; row = 0 })

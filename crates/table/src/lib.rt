@@ -2,7 +2,7 @@
 ghost use Prim.Native.Nat.{_≤_};
 ghost use mathlib.Core.Path.{_≡_};
 ghost use Rattle.table.specs.Limits.{mostTasks, mostCores, mostPartitions, longestPeriod};
-ghost use Rattle.table.specs.Refused.{rowRefusal, rowsRefusal, refusal};
+ghost use Rattle.table.specs.Refused.{sizesRefusal, rowRefusal, rowsRefusal, refusal};
 ghost use Rattle.table.specs.Tasks.{noTask, emptyTable};
 
 #[repr(C)]
@@ -63,7 +63,7 @@ impl Task {
     }
 
     // The first of refusals 4 to 8 that the row earns on a cache of p partitions, or 0.
-    fn refused(self, p: Partitions) -> u32
+    pub fn refused(self, p: Partitions) -> u32
         ensures { λ r. ⌜ r ≡ rowRefusal (p .0) self ⌝ }
     {
         if self.t < 1 {
@@ -102,29 +102,43 @@ impl Table {
         }
     }
 
-    // The first of refusals 1 to 8.
-    pub fn refused(self) -> Refusal
-        ensures { λ r. ⌜ r ≡ refusal self ⌝ }
+    // The first of refusals 1 to 3, or 0.
+    pub fn sizes_refused(self) -> u32
+        ensures { λ r. ⌜ r ≡ sizesRefusal self ⌝ }
     {
         let m = self.platform.cores.0;
         let p = self.platform.partitions.0;
         if self.n < 1 {
-            return Refusal { number: 1, row: 0 };
+            return 1;
         }
         if Table::MOST < self.n {
-            return Refusal { number: 1, row: 0 };
+            return 1;
         }
         if m < 1 {
-            return Refusal { number: 2, row: 0 };
+            return 2;
         }
         if Cores::MOST < m {
-            return Refusal { number: 2, row: 0 };
+            return 2;
         }
         if p < 1 {
-            return Refusal { number: 3, row: 0 };
+            return 3;
         }
         if Partitions::MOST < p {
-            return Refusal { number: 3, row: 0 };
+            return 3;
+        }
+        0
+    }
+
+    // The first of refusals 1 to 8.
+    pub fn refused(self) -> Refusal
+        ensures { λ r. ⌜ r ≡ refusal self ⌝ }
+    {
+        let number = self.sizes_refused();
+        if number != 0 {
+            return Refusal {
+                number: number,
+                row: 0,
+            };
         }
         self.rows_refused()
     }

@@ -1,49 +1,33 @@
-use Rattle.maths.proofs.Tests.{tests}
-use Rattle.table.specs.Refused.{tableRules, refusal}
+use mathlib.Core.Path.{_≡_, sym, _∙_}
+use borrow.Author.Tests.{eq-eqb, ne-eqb}
+use Rattle.table.specs.Refused.{sizesRefusal, refusal}
+use Rattle.table.proofs.Good.{good-sizes}
 use borrow.Author.Needs.{needs}
 use Rattle.table.proofs.Table.refused.Statement.{statement}
 use Rattle.table.proofs.Table.refused.Tie as tie
 
+sizes-refused-requires : tie.Need-sizes-refused-requires
+sizes-refused-requires c κs = search needs
+
 returns : tie.Need-returns
-unfolding refusal tableRules
-returns c = search tests
-
-returns-2 : tie.Need-returns-2
-unfolding refusal tableRules
-returns-2 c = search tests
-
-returns-3 : tie.Need-returns-3
-unfolding refusal tableRules
-returns-3 c = search tests
-
-returns-4 : tie.Need-returns-4
-unfolding refusal tableRules
-returns-4 c = search tests
-
-returns-5 : tie.Need-returns-5
-unfolding refusal tableRules
-returns-5 c = search tests
-
-returns-6 : tie.Need-returns-6
-unfolding refusal tableRules
-returns-6 c = search tests
+unfolding refusal
+returns c =
+    let t = c .before .before .args .self in
+    let e = c .before .sizes-refused .ensures in
+    rw (e, ne-eqb (sizesRefusal t) 0 (λ z. c .if1 .taken (e ∙ z)))
 
 rows-refused-requires : tie.Need-rows-refused-requires
-rows-refused-requires c κs = search needs
+rows-refused-requires c κs =
+    let t = c .before .before .args .self in
+    good-sizes t (sym (c .before .sizes-refused .ensures) ∙ c .if1 .left) .few
 
-returns-7 : tie.Need-returns-7
-unfolding refusal tableRules
-returns-7 c = search tests
+returns-2 : tie.Need-returns-2
+unfolding refusal
+returns-2 c =
+    let s = c .before .before in
+    let t = s .before .args .self in
+    rw (eq-eqb (sizesRefusal t) 0 (sym (s .sizes-refused .ensures) ∙ c .before .if1 .left)) (c .rows-refused .ensures)
 
 pub refused-spec : {M : Type 1} → statement M
 refused-spec =
-    tie.close
-    (tie.spec
-    returns
-    returns-2
-    returns-3
-    returns-4
-    returns-5
-    returns-6
-    rows-refused-requires
-    returns-7)
+    tie.close (tie.spec sizes-refused-requires returns rows-refused-requires returns-2)

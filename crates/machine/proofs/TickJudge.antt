@@ -1,0 +1,138 @@
+-- What the first pass and the pass over the entries past n come to: the refusal of the tick; and what an accepted tick is for each task.
+use Prim.Native.Nat.{ℕ, zero, suc, _+_, _^_, _<_, _≤_, min}
+use mathlib.Core.Path.{_≡_, refl, sym, _∙_, ap}
+use mathlib.Core.Bool.{Bool, true, false, cond, not, _&&_, _||_, true≢false}
+use native.Mathlib.Numerals.{add-one}
+use native.Mathlib.Omega.{arith}
+use borrow.Author.Tests.{le-leb, lt-leb, leb-true, eq-eqb, eqb-true, le-ltb, ltb-true}
+use lib.Bits.{bitOr}
+use lib.Dec.{ltb, leb, eqb}
+use lib.ListN.{length}
+use Rattle.maths.specs.Tasks.{every}
+use Rattle.maths.proofs.Tasks.{every-holds, every-of}
+use Rattle.maths.proofs.Tests.{both, same-truth}
+use Rattle.table.specs.declared.Refusal.{Refusal}
+use Rattle.table.specs.Limits.{mostTasks}
+use Rattle.table.specs.Tasks.{M, P, τ}
+use Rattle.table.specs.Refused.{refusal}
+use Rattle.table.proofs.Good.{good-sizes, sizes-accepted, row-accepted}
+use Rattle.table.proofs.Good as good
+use Rattle.sets.specs.Families.{allApart}
+use Rattle.sets.proofs.Unions.{apart-all}
+use Rattle.machine.specs.declared.Look.{Look}
+use Rattle.machine.specs.declared.Machine.{Machine}
+use Rattle.machine.specs.Jobs.{job, running}
+use Rattle.machine.specs.Conditions.{goodState}
+use Rattle.machine.specs.Passes.{refuses, foundGood, foundRefusal}
+use Rattle.machine.specs.Tick.{tickRules, firstGiven, tickRefusal, accepted}
+use Rattle.machine.proofs.StateParts.{GoodState}
+use Rattle.machine.proofs.StateTest.{state-good, state-test, job-test, past-test}
+use Rattle.machine.proofs.StateLoops.{goodTask, zeroEntry, running-all}
+use Rattle.machine.proofs.TickTurns.{or-none}
+use Rattle.machine.proofs.TickAllowed.{allowed-of, AllAllowed, none-first, first-none}
+use Rattle.machine.proofs.TickLook.{lookTo, Looked, looked, looks-good, noneGiven}
+
+-- the pass over the entries past n, up to k
+abbrev pub zeroTo : Machine → ℕ → Bool
+zeroTo m k = every k (λ j. leb j (m .table .n) || zeroEntry m j)
+
+module _ (m : Machine) where
+  pub zero-none : (k : ℕ) → k ≤ m .table .n → true ≡ zeroTo m k
+  zero-none k h = sym (every-of (λ j. leb j (m .table .n) || zeroEntry m j) k (λ i l. rw (le-leb (suc i) (m .table .n) (omega arith))))
+
+  pub zero-more : (k past marks : ℕ) → m .table .n ≤ k → eqb past 0 ≡ zeroTo m k → eqb marks 0 ≡ zeroEntry m (suc k)
+      → eqb (bitOr past marks) 0 ≡ zeroTo m (k + 1)
+  unfolding every
+  zero-more k past marks h e w = rw (add-one k, or-none past marks, e, w, lt-leb (suc k) (m .table .n) (omega arith))
+
+module _ (m : Machine) (released finished past : ℕ) (len : length (m .table .rows) ≡ mostTasks) (zeros : eqb past 0 ≡ zeroTo m mostTasks) where
+  abbrev found : Look
+  found = lookTo m released finished (min (m .table .n) mostTasks)
+
+  zeros-of : goodState m ≡ true → zeroTo m mostTasks ≡ true
+  unfolding goodState
+  zeros-of e =
+      let a = both (eqb (refusal (m .table) .number) 0 && zeroTo m mostTasks && every (m .table .n) (goodTask m) && allApart (m .table .n) (λ i. job m (suc i) .held)) _ e in
+      let b = both (eqb (refusal (m .table) .number) 0 && zeroTo m mostTasks && every (m .table .n) (goodTask m)) _ (a .0) in
+      let c = both (eqb (refusal (m .table) .number) 0 && zeroTo m mostTasks) _ (b .0) in
+      both (eqb (refusal (m .table) .number) 0) _ (c .0) .1
+
+  -- where n is in range, the pass goes over tasks 1 to n
+  all-of : m .table .n ≤ mostTasks → found ≡ lookTo m released finished (m .table .n)
+  all-of h = ap (lookTo m released finished) (omega arith)
+
+  to-good : foundGood found past (M (m .table)) ≡ true → goodState m ≡ true
+  unfolding goodState
+  to-good e =
+      let a = both (found .good && eqb past 0) _ e in
+      let b = both (found .good) _ (a .0) in
+      let few : m .table .n ≤ mostTasks = good-sizes (m .table) (looked m released finished _ (b .0) .sizes) .few in
+      let is = all-of few in
+      let g : lookTo m released finished (m .table .n) .good ≡ true = rw (← is) (b .0) in
+      let l = looked m released finished (m .table .n) g in
+      rw (
+        eq-eqb (refusal (m .table) .number) 0 (good.accepted (m .table) len (l .sizes) (l .rows)),
+        sym zeros ∙ b .1,
+        every-of (goodTask m) (m .table .n) (l .jobs .good),
+        apart-all (λ i. job m (suc i) .held) (m .table .n) (l .jobs .apart),
+        ← running-all m,
+        ← l .jobs .runs,
+      )
+      (rw (← is) (a .1))
+
+  from-good : goodState m ≡ true → foundGood found past (M (m .table)) ≡ true
+  from-good e =
+      let g = state-good m len e in
+      let is = all-of (g .table .few) in
+      let t = m .table in
+      let w : lookTo m released finished (m .table .n) .good ≡ true =
+      looks-good m released finished (sizes-accepted t len (g .accepted)) (t .n) (row-accepted t len (g .accepted)) (λ i l. job-test _ _ _ (g .each i l)) (g .apart) (t .n) (omega arith) in
+      let l = looked m released finished (t .n) w in
+      let cores : lookTo m released finished (t .n) .running ≤ M t = rw (l .jobs .runs, running-all m) (g .cores) in
+      rw (is, w, zeros, zeros-of e) (le-leb _ _ cores)
+
+  pub found-good : foundGood found past (M (m .table)) ≡ goodState m
+  found-good = same-truth _ _ to-good from-good
+
+  -- what the pass knows of a good state
+  pub found-looked : goodState m ≡ true → Looked m released finished (m .table .n) found
+  found-looked e =
+      let good = both (found .good) _ (both (found .good && eqb past 0) _ (from-good e) .0) in
+      let is = all-of (state-good m len e .table .few) in
+      let g : lookTo m released finished (m .table .n) .good ≡ true = rw (← is) (good .0) in
+      rw is (looked m released finished (m .table .n) g)
+
+  -- where the pass found nothing given, no refusal is
+  clear-none : goodState m ≡ true → found .clear ≡ true → firstGiven (tickRules m released finished) ≡ refuses 0 0
+  clear-none e clear =
+      let all = both (ltb (bitOr released finished) (2 ^ (m .table .n))) _ (sym (found-looked e .clear) ∙ clear) in
+      none-first m released finished (state-good m len e) (ltb-true _ _ (all .0))
+      (λ i l. allowed-of _ _ _ _ (every-holds (noneGiven m released finished) (m .table .n) (all .1) i l))
+
+  pub found-refusal : foundRefusal found past m released finished ≡ tickRefusal m released finished
+  unfolding foundRefusal tickRefusal
+  found-refusal = rw found-good (by (goodState m) refl (found .clear) refl)
+    where
+      by : (b : Bool) → goodState m ≡ b → (c : Bool) → found .clear ≡ c
+          → cond b (cond c (refuses 0 0) (firstGiven (tickRules m released finished))) (refuses 14 0)
+          ≡ cond b (firstGiven (tickRules m released finished)) (refuses 14 0)
+      by true w true x = sym (clear-none w x)
+      by true w false x = refl
+      by false w c x = refl
+
+-- what an accepted tick is
+pub record Accepts (m : Machine) (released finished : ℕ) : Type 0 where
+  pub test : goodState m ≡ true
+  pub good : GoodState m
+  pub each : AllAllowed m released finished good
+
+pub accepts : (m : Machine) (released finished : ℕ) → length (m .table .rows) ≡ mostTasks → accepted m released finished ≡ true
+    → Accepts m released finished
+unfolding tickRefusal
+accepts m released finished len e = by (goodState m) refl (eqb-true _ _ e)
+  where
+    by : (b : Bool) → goodState m ≡ b → cond b (firstGiven (tickRules m released finished)) (refuses 14 0) .number ≡ 0 → Accepts m released finished
+    by true w z =
+        let g = state-good m len w in
+        record { test = w; good = g; each = first-none m released finished g z }
+    by false w z = absurd (omega arith)

@@ -1,0 +1,40 @@
+use Rattle.machine.specs.Passes.{walkWith}
+use borrow.Author.Needs.{needs}
+use Rattle.machine.proofs.Walk.with.Statement.{statement}
+use Rattle.machine.proofs.Walk.with.Tie as tie
+
+has-task-requires : tie.Need-has-task-requires
+has-task-requires c κs = search needs
+
+finished-job-requires : tie.Need-finished-job-requires
+finished-job-requires c κs = search needs
+
+late-with-requires : tie.Need-late-with-requires
+late-with-requires c κs = search needs
+
+has-task-requires-2 : tie.Need-has-task-requires-2
+has-task-requires-2 c κs = search needs
+
+released-job-requires : tie.Need-released-job-requires
+released-job-requires c κs = search needs
+
+begin-requires : tie.Need-begin-requires
+begin-requires c κs = search needs
+
+returns : tie.Need-returns
+unfolding walkWith
+returns c =
+    let f = c .before .before .before .before in
+    rw (c .begin .ensures, c .before .released-job .ensures, c .before .before .has-task2 .ensures, c .before .before .before .late-with .ensures, f .finished-job .ensures, f .before .has-task .ensures)
+
+pub with-spec : {M : Type 1} → statement M
+with-spec =
+    tie.close
+    (tie.spec
+    has-task-requires
+    finished-job-requires
+    late-with-requires
+    has-task-requires-2
+    released-job-requires
+    begin-requires
+    returns)

@@ -1,4 +1,4 @@
-//! Cases of texts: readers (P, K, R), the call from C (C), the programs' whole work (M, N), writers (W).
+//! Cases of texts: readers (P, K, R), writers (V, and W for two texts at once), the call from C (C) and the programs' whole work (M, N).
 
 use crate::cases_admission::{refused_values, table_values};
 use crate::counts::Counts;
@@ -85,8 +85,9 @@ impl Run {
         self.pair.write(b'C', &[bytes(platform), bytes(tasks)], &numbers([answer.into()]))
     }
 
-    /// Platform and tasks texts of a table, good or not, into buffers that are long enough or just too short.
-    fn writers(&mut self) -> io::Result<()> {
+    /// Platform and tasks texts of a table, good or not, into buffers that are long enough or just too short: each by itself (V) and
+    /// both at once (W).
+    fn writers(&mut self, kind: u8) -> io::Result<()> {
         let rng = &mut self.rng;
         let mut table = if rng.once_in(2) { states::busy_table(rng) } else { tables::wild(rng) };
         table.n = table.n.min(ROWS as u64);
@@ -97,44 +98,81 @@ impl Run {
         });
         let mut case = table_values(&table);
         case.extend(numbers(buffers.iter().map(|b| b.len() as u64)));
-        let refused = put(&texts, &mut buffers).err();
-        self.counts.add(refused.map_or("W written".to_string(), |r| format!("W refused {}", r.number)));
-        let mut answer = refused_values(refused).to_vec();
-        answer.extend(buffers.map(|b| bytes(&b)));
-        self.pair.write(b'W', &case, &answer)
+        let mut answer = vec![];
+        if kind == b'W' {
+            let refused = put(&texts, &mut buffers).err();
+            self.counts.add(refused.map_or("W written".to_string(), |r| format!("W refused {}", r.number)));
+            answer.extend(refused_values(refused));
+            answer.extend(buffers.map(|b| bytes(&b)));
+        } else {
+            for (text, buffer) in texts.iter().zip(&mut buffers) {
+                let refused = put(std::slice::from_ref(text), std::slice::from_mut(buffer)).err();
+                self.counts.add(refused.map_or("V written".to_string(), |r| format!("V refused {}", r.number)));
+                answer.extend(refused_values(refused));
+                answer.extend(numbers([if refused.is_none() { text.len() as u64 } else { 0 }]));
+                answer.push(bytes(buffer));
+            }
+        }
+        self.pair.write(kind, &case, &answer)
+    }
+
+    /// Prints the counts and closes the files; the answer is false if an outcome was met less than once in two thousand cases.
+    fn end(self, wanted: &[String]) -> io::Result<bool> {
+        println!("{} cases of texts:", self.pair.written);
+        self.counts.print();
+        let least = self.pair.written / 2000;
+        self.pair.close()?;
+        let rare = self.counts.rarer(&wanted.iter().map(String::as_str).collect::<Vec<_>>(), least);
+        if !rare.is_empty() {
+            println!("met too seldom: {}", rare.join(", "));
+        }
+        Ok(rare.is_empty())
     }
 }
 
-/// Writes about `count_of` cases; the answer is false if some outcome is met too seldom to say that it was tried.
-pub fn write(count_of: u64, seed: u64, pair: Pair) -> io::Result<bool> {
-    let mut run = Run { rng: Rng::new(seed), counts: Counts::default(), pair };
+fn begin(seed: u64, pair: Pair) -> Run {
+    Run { rng: Rng::new(seed), counts: Counts::default(), pair }
+}
+
+/// The three readers.
+pub fn write_readers(count_of: u64, seed: u64, pair: Pair) -> io::Result<bool> {
+    let mut run = begin(seed, pair);
     while run.pair.written < count_of {
         let given = three(&mut run.rng);
-        run.programs(&given)?;
         for (kind, form, text) in
             [(b'P', &PLATFORM, given.platform), (b'K', &TASKS, given.tasks), (b'R', &TICKS, Some(given.ticks))]
         {
             let text = spoiled(&mut run.rng, form, text.unwrap_or_default());
             run.reader(kind, form, &text)?;
         }
-        run.writers()?;
     }
-    println!("{} cases of texts:", run.pair.written);
-    run.counts.print();
-    run.pair.close()?;
+    let outcomes = ["good", "cut short", "a byte that cannot stand there"];
+    run.end(&["P", "K", "R"].iter().flat_map(|kind| outcomes.map(|what| format!("{kind} {what}"))).collect::<Vec<_>>())
+}
+
+/// The writers, one text at a time.
+pub fn write_writers(count_of: u64, seed: u64, pair: Pair) -> io::Result<bool> {
+    let mut run = begin(seed, pair);
+    while run.pair.written < count_of {
+        run.writers(b'V')?;
+    }
+    run.end(&["V written", "V refused 16"].map(String::from))
+}
+
+/// Whole texts in: the programs' work, the call from C, and two texts out.
+pub fn write(count_of: u64, seed: u64, pair: Pair) -> io::Result<bool> {
+    let mut run = begin(seed, pair);
+    while run.pair.written < count_of {
+        let given = three(&mut run.rng);
+        run.programs(&given)?;
+        run.writers(b'W')?;
+    }
     let mut wanted =
         ["C 0", "C 15", "C not admitted", "M listed", "N listed", "W written", "W refused 16"].map(String::from).to_vec();
     wanted.extend(
         [15, 1, 2, 3, 4, 5, 6, 7, 8].iter().flat_map(|number| [format!("M refused {number}"), format!("N refused {number}")]),
     );
-    for kind in ["P", "K", "R"] {
-        wanted.extend(["good", "cut short", "a byte that cannot stand there"].map(|what| format!("{kind} {what}")));
-    }
-    let rare = run.counts.rarer(&wanted.iter().map(String::as_str).collect::<Vec<_>>(), count_of / 2000);
-    if !rare.is_empty() {
-        println!("met too seldom: {}", rare.join(", "));
-    }
-    Ok(rare.is_empty())
+    run.end(&wanted)
 }
 
 /// Writes folders 1, 2, .. with the files that the programs read, their standard input, and what "admit" and "ticks" must write.

@@ -7,7 +7,8 @@
 //! A  both admission answers           P  a platform text is read       C  the call from C
 //! S  set-up of the machine kept       K  a tasks text is read          M  the program "admit"
 //! T  a tick of the machine kept       R  a ticks text is read          N  the program "ticks"
-//! X  a tick of a machine given        W  platform and tasks texts are written
+//! X  a tick of a machine given        V  platform and tasks texts are written, each by itself
+//!                                     W  both are written, or neither
 //! ```
 
 use std::io::{self, Read};
@@ -83,7 +84,7 @@ pub fn case_fields(kind: u8) -> Option<Vec<Field>> {
                 all.push(field("ticks", Text));
             }
         }
-        b'W' => {
+        b'V' | b'W' => {
             all.extend(table_fields());
             all.extend([field("platform buffer", U32), field("tasks buffer", U32)]);
         }
@@ -120,6 +121,12 @@ pub fn answer_fields(kind: u8) -> Option<Vec<Field>> {
         }
         b'C' => all.push(field("answer", U32)),
         b'M' | b'N' => all.push(field("listing", Text)),
+        b'V' => {
+            for name in ["platform", "tasks"] {
+                all.extend([field(format!("{name} number"), U32), field(format!("{name} row"), U64)]);
+                all.extend([field(format!("{name} length"), U64), field(format!("{name} buffer"), Text)]);
+            }
+        }
         b'W' => {
             all.extend([field("number", U32), field("row", U64)]);
             all.extend([field("platform buffer", Text), field("tasks buffer", Text)]);

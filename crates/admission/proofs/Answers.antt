@@ -1,10 +1,20 @@
 -- The two answers agree, and each statement allows one result.
 use mathlib.Core.Path.{_≡_, refl}
-use mathlib.Core.Bool.{Bool, true, false, cond}
+use mathlib.Core.Bool.{Bool, true, false, cond, not}
+use Prim.Native.Nat.{_≤_}
+use native.Mathlib.Nat.{le-trans}
+use native.Mathlib.Omega.{arith}
+use borrow.Author.Tests.{eqb-true}
+use lib.ListN.{length}
 use Rattle.maths.proofs.Determined.{determined}
+use Rattle.maths.proofs.Tasks.{lowest-le}
 use Rattle.table.specs.declared.Table.{Table}
+use Rattle.table.specs.Limits.{mostTasks}
+use Rattle.table.specs.Refused.{refusal}
+use Rattle.table.proofs.Good.{good-of}
 use Rattle.admission.specs.declared.FullAnswer.{FullAnswer}
 use Rattle.admission.specs.declared.QuickAnswer.{QuickAnswer}
+use Rattle.admission.specs.Test.{passes, admitted, firstFailing}
 use Rattle.admission.specs.Answers.{accepted, fullAnswer, quickAnswer}
 
 -- the full answer without its margins
@@ -24,3 +34,13 @@ full-determined t = determined (fullAnswer t)
 
 pub quick-determined : (t : Table) (r s : QuickAnswer) → r ≡ quickAnswer t → s ≡ quickAnswer t → r ≡ s
 quick-determined t = determined (quickAnswer t)
+
+-- the first task that does not pass is a task
+pub first-le : (t : Table) → length (t .rows) ≡ mostTasks → quickAnswer t .first ≤ mostTasks
+unfolding quickAnswer
+first-le t len = by (accepted t) refl
+  where
+    by : (b : Bool) → accepted t ≡ b
+        → cond {A = QuickAnswer} b (record { refused = refusal t; admitted = admitted t; first = firstFailing t }) (record { refused = refusal t; admitted = false; first = 0 }) .first ≤ mostTasks
+    by true e = le-trans (lowest-le (λ k. not (passes t k)) (t .n)) (good-of t len (eqb-true (refusal t .number) 0 e) .few)
+    by false e = omega arith

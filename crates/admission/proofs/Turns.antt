@@ -12,8 +12,8 @@ use Rattle.admission.proofs.Bounds.{Amax-suc, row-good, term-le, B-le, 
 use Rattle.admission.proofs.Laws.{loadTo, load-none, load-more}
 
 pub record Measured (t : Table) (k : ℕ) (x : Measures) : Type 0 where
-  pub most : x .most ≡ Amax t (suc k)
-  pub b : x .b ≡ B t (suc k)
+  pub most : x .most .0 ≡ Amax t (suc k)
+  pub b : x .b .0 ≡ B t (suc k)
   pub s : x .s ≡ S t (suc k)
 
 pub record Loading (t : Table) (k : ℕ) (x : Measures) (load i : ℕ) : Type 0 where
@@ -22,18 +22,18 @@ pub record Loading (t : Table) (k : ℕ) (x : Measures) (load i : ℕ) : Type 0 
   pub small : load ≤ i * mostTerm
 
 module _ {t : Table} (g : Good t) {k : ℕ} (l : k < t .n) {x : Measures} where
-  pub measured : {a : ℕ} → a ≡ Amax t k → x .most ≡ max a (A (τ t (suc k))) → x .b ≡ P t - max a (A (τ t (suc k))) + 1
+  pub measured : {a : ℕ} → a ≡ Amax t k → x .most .0 ≡ max a (A (τ t (suc k))) → x .b .0 ≡ P t - max a (A (τ t (suc k))) + 1
       → x .s ≡ D (τ t (suc k)) - C (τ t (suc k)) → Measured t k x
   measured e most b s = record { most = omega (arith, Amax-suc g k); b = omega (arith, Amax-suc g k); s = s }
 
   module _ (m : Measured t k x) where
-    pub b-le : x .b ≤ 65
+    pub b-le : x .b .0 ≤ 65
     b-le = omega (arith, m .b, B-le g k l)
 
     pub s-le : x .s ≤ longestPeriod
     s-le = omega (arith, m .s, S-le g k l)
 
-    pub limit-is : M t * x .b * x .s ≡ limit t (suc k)
+    pub limit-is : M t * x .b .0 * x .s ≡ limit t (suc k)
     unfolding limit
     limit-is = rw (m .b, m .s)
 
@@ -41,7 +41,7 @@ module _ {t : Table} (g : Good t) {k : ℕ} (l : k < t .n) {x : Measures} where
     loading-none = record { measures = m; is = sym (load-none t (suc k)); small = omega arith }
 
   pub loading-more : {load i term : ℕ} → i < t .n → Loading t k x load i
-      → term ≡ weightOf (M t) (x .b) (A (τ t (suc i))) * interferenceIn (x .s) (τ t (suc i)) → Loading t k x (load + term) (i + 1)
+      → term ≡ weightOf (M t) (x .b .0) (A (τ t (suc i))) * interferenceIn (x .s) (τ t (suc i)) → Loading t k x (load + term) (i + 1)
   unfolding interference
   loading-more {load} {i} {term} h c e =
       let m = c .measures in

@@ -22,10 +22,10 @@ pub struct FullAnswer {
     pub margins: [i64; Table::MOST],
 }
 
-// Of one task.
+// Of one task: Amax and B, counts of partitions, and its slack.
 struct Measures {
-    most: u32,
-    b: u32,
+    most: Partitions,
+    b: Partitions,
     s: u32,
 }
 
@@ -51,29 +51,29 @@ fn interferes(s: u32, row: Task) -> u64
 }
 
 // The weight of a row in the load of a task whose B is b.
-fn weighs(m: u32, b: u32, row: Task) -> u32
-    requires { ⌜ (m ≤ mostCores) × GoodRow mostPartitions row ⌝ }
-    ensures { λ r. ⌜ r ≡ weightOf m b (row .a .0) ⌝ }
+fn weighs(m: Cores, b: Partitions, row: Task) -> u32
+    requires { ⌜ (m .0 ≤ mostCores) × GoodRow mostPartitions row ⌝ }
+    ensures { λ r. ⌜ r ≡ weightOf (m .0) (b .0) (row .a .0) ⌝ }
 {
-    let share = m * row.a.0;
-    if share < b { b } else { share }
+    let share = m.0 * row.a.0;
+    if share < b.0 { b.0 } else { share }
 }
 
 // What a row adds to the load of a task whose B is b and whose slack is s.
-fn term(m: u32, b: u32, s: u32, row: Task) -> u64
-    requires { ⌜ (m ≤ mostCores) × (b ≤ 65) × (s ≤ longestPeriod) × GoodRow mostPartitions row ⌝ }
-    ensures { λ r. ⌜ r ≡ weightOf m b (row .a .0) * interferenceIn s row ⌝ }
+fn term(m: Cores, b: Partitions, s: u32, row: Task) -> u64
+    requires { ⌜ (m .0 ≤ mostCores) × (b .0 ≤ 65) × (s ≤ longestPeriod) × GoodRow mostPartitions row ⌝ }
+    ensures { λ r. ⌜ r ≡ weightOf (m .0) (b .0) (row .a .0) * interferenceIn s row ⌝ }
 {
     let w = weighs(m, b, row);
     (w as u64) * interferes(s, row)
 }
 
 // The limit of a task whose B is b and whose slack is s.
-fn limited(m: u32, b: u32, s: u32) -> u64
-    requires { ⌜ (m ≤ mostCores) × (b ≤ 65) × (s ≤ longestPeriod) ⌝ }
-    ensures { λ r. ⌜ r ≡ m * b * s ⌝ }
+fn limited(m: Cores, b: Partitions, s: u32) -> u64
+    requires { ⌜ (m .0 ≤ mostCores) × (b .0 ≤ 65) × (s ≤ longestPeriod) ⌝ }
+    ensures { λ r. ⌜ r ≡ m .0 * b .0 * s ⌝ }
 {
-    (m as u64) * (b as u64) * (s as u64)
+    (m.0 as u64) * (b.0 as u64) * (s as u64)
 }
 
 // The exact difference, below, at and above 0.
@@ -85,21 +85,21 @@ fn difference(a: u64, b: u64) -> i64
 }
 
 // Amax of task k + 1, from its row and from the Amax of task k.
-fn largest(row: Task, most: u32) -> u32
-    ensures { λ r. ⌜ r ≡ max most (row .a .0) ⌝ }
+fn largest(row: Task, most: Partitions) -> Partitions
+    ensures { λ r. ⌜ r .0 ≡ max (most .0) (row .a .0) ⌝ }
 {
-    if most < row.a.0 { row.a.0 } else { most }
+    if most.0 < row.a.0 { row.a } else { most }
 }
 
 // Amax, B and S of task k + 1 on p partitions, from its row and from the Amax of task k.
-fn measured(p: u32, most: u32, row: Task) -> Measures
-    requires { ⌜ (most ≤ p) × (p ≤ mostPartitions) × GoodRow p row ⌝ }
-    ensures { λ r. ⌜ (r .most ≡ max most (row .a .0)) × (r .b ≡ p - max most (row .a .0) + 1) × (r .s ≡ D row - C row) ⌝ }
+fn measured(p: Partitions, most: Partitions, row: Task) -> Measures
+    requires { ⌜ (most .0 ≤ p .0) × (p .0 ≤ mostPartitions) × GoodRow (p .0) row ⌝ }
+    ensures { λ r. ⌜ (r .most .0 ≡ max (most .0) (row .a .0)) × (r .b .0 ≡ p .0 - max (most .0) (row .a .0) + 1) × (r .s ≡ D row - C row) ⌝ }
 {
     let most = largest(row, most);
     Measures {
         most: most,
-        b: p - most + 1,
+        b: Partitions(p.0 - most.0 + 1),
         s: row.d - row.c,
     }
 }
@@ -124,11 +124,11 @@ fn judge(t: Table) -> Judged
     ensures { λ r. ⌜ r ≡ judgement t ⌝ }
 {
     let n = t.n;
-    let m = t.platform.cores.0;
-    let p = t.platform.partitions.0;
+    let m = t.platform.cores;
+    let p = t.platform.partitions;
     let mut margins = [0i64; Table::MOST];
     let mut first: usize = 0;
-    let mut most: u32 = 0;
+    let mut most = Partitions(0);
     let mut k: usize = 0;
     while k < n {
         let x = measured(p, most, t.rows[k]);
@@ -157,10 +157,10 @@ fn first_failing(t: Table) -> usize
     ensures { λ r. ⌜ r ≡ firstFailing t ⌝ }
 {
     let n = t.n;
-    let m = t.platform.cores.0;
-    let p = t.platform.partitions.0;
+    let m = t.platform.cores;
+    let p = t.platform.partitions;
     let mut first: usize = 0;
-    let mut most: u32 = 0;
+    let mut most = Partitions(0);
     let mut k: usize = 0;
     'tasks: while k < n {
         let x = measured(p, most, t.rows[k]);

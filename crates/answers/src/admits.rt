@@ -4,20 +4,13 @@ use crate::bytes::bits;
 use crate::bytes::count;
 use crate::bytes::flag;
 use crate::bytes::put;
+use crate::bytes::put_refusal;
 use crate::bytes::put64;
 use crate::bytes::send;
 use crate::tables;
 use admission::FullAnswer;
 use admission::QuickAnswer;
-use table::Refusal;
 use table::Table;
-
-fn put_refusal(b: &mut Answer, at: usize, r: Refusal) {
-    if at < 293 {
-        put(b, at, r.number);
-        put64(b, at + 4, count(r.row));
-    }
-}
 
 fn put_margins(b: &mut Answer, margins: [i64; Table::MOST]) {
     let mut i: usize = 0;

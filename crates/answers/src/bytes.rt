@@ -1,5 +1,8 @@
 // Numbers in bytes, the low byte first. Every function here takes any place, and reads 0 and writes nothing where it does not lie within the bytes.
 
+ghost use Rattle.io.specs.Counts.{Counts};
+use table::Refusal;
+
 // Room for the longest answer that is not a text.
 pub type Answer = [u8; 304];
 
@@ -79,13 +82,39 @@ pub fn put64(b: &mut Answer, at: usize, x: u64) {
     }
 }
 
-fn send_part(b: &[u8], n: usize) {
-    if n <= b.len() {
-        io::write_all(libc::STDOUT_FILENO, &b[..n]);
+// A refusal's number and row.
+pub fn put_refusal(b: &mut Answer, at: usize, r: Refusal) {
+    if at < 293 {
+        put(b, at, r.number);
+        put64(b, at + 4, count(r.row));
     }
+}
+
+// As many of the bytes as n asks for.
+pub fn most(b: &[u8], n: usize) -> usize
+    ensures { λ r. ⌜ Counts r (now (b .entry)) ⌝ }
+{
+    if n < b.len() { n } else { b.len() }
+}
+
+fn send_part(b: &[u8], n: usize) {
+    let n = most(b, n);
+    io::write_all(libc::STDOUT_FILENO, &b[..n]);
 }
 
 // Writes the first n bytes of an answer.
 pub fn send(b: &Answer, n: usize) {
     send_part(b, n);
+}
+
+fn low(x: usize) -> u32 {
+    (x % 4294967296) as u32
+}
+
+// Writes a text: its length and then its bytes.
+pub fn send_text(b: &[u8]) {
+    let mut length = [0u8; 304];
+    put(&mut length, 0, low(b.len()));
+    send(&length, 4);
+    io::write_all(libc::STDOUT_FILENO, b);
 }

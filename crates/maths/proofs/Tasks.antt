@@ -101,6 +101,13 @@ module _ (f : ℕ → Bool) where
           let late : suc m ≡ suc k = sym (lowest-stays k n m (omega (arith, lowest-holds n k e .0)) d) ∙ e in
           absurd (omega (arith, lowest-holds k m d .0))
 
+  pub lowest-le : (n : ℕ) → lowest n f ≤ n
+  lowest-le n = by (lowest n f) refl
+    where
+      by : (k : ℕ) → lowest n f ≡ k → k ≤ n
+      by zero e = omega arith
+      by (suc k) e = lowest-holds n k e .0
+
   -- of the first n none, then none found
   pub lowest-empty : (n : ℕ) → ((i : ℕ) → i < n → f (suc i) ≡ false) → lowest n f ≡ 0
   unfolding lowest

@@ -26,12 +26,12 @@ use Rattle.promise.proofs.Test.{not-refused}
 use Rattle.unit.specs.Lent.{tableOf}
 use Rattle.unit.specs.Demands.{Demand1, Demand2, Demand3, since}
 
-set-up-number : (m : Machine) (t : Table) → setUp m t .refused .number ≡ refusal t .number
+pub set-up-number : (m : Machine) (t : Table) → setUp m t .refused .number ≡ refusal t .number
 unfolding setUp
 set-up-number m t = refl
 
 -- a refused tick returns the machine and the refusal
-tick-refused : (m : Machine) (released finished : ℕ) → tick m released finished .answer .refused .number ≢ 0
+pub tick-refused : (m : Machine) (released finished : ℕ) → tick m released finished .answer .refused .number ≢ 0
     → tick m released finished ≡ record { machine = m; answer = refusedAnswer (tick m released finished .answer .refused) }
 unfolding tick
 tick-refused m released finished h = by (accepted m released finished) refl h

@@ -1,11 +1,14 @@
 pub mod Cut
 pub mod Data
 pub mod Demands
+pub mod Determined
 pub mod Fill
 pub mod First
+pub mod InC
 pub mod Judged
 pub mod Lends
 pub mod Moved
+pub mod OfRows
 pub mod Renewed
 pub mod Rows
 pub mod Tables

@@ -1,3 +1,4 @@
 pub mod Lent
 pub mod Raw
+pub mod InC
 pub mod Demands

@@ -5,3 +5,5 @@ pub mod Sequences
 pub mod Wholes
 pub mod Tables
 pub mod Signed
+pub mod Margins
+pub mod Ticks

@@ -24,6 +24,9 @@ put-length {b} {c} {x} {at} f = ap length (f .holds) ∙ length-sets b at x
 pub put-room : {b c x : List ℕ} {at next : ℕ} (y : List ℕ) → Put b at x next c → at + length (x ++ y) ≤ length b → next + length y ≤ length c
 put-room {x} y f h = let p = f .behind in omega (arith, length-append x y, put-length f)
 
+pub first-fits : (x y : List ℕ) (at room : ℕ) → at + length (x ++ y) ≤ room → at + length x ≤ room
+first-fits x y at room h = omega (arith, length-append x y)
+
 -- on the way through a text: what is left of it
 pub record Putting (buffer : List ℕ) (at : ℕ) (whole after : List ℕ) (next : ℕ) (rest : List ℕ) : Type 0 where
   pub done : List ℕ

@@ -1,5 +1,5 @@
 -- The sign and the size of a signed 64-bit number.
-use Prim.Native.Nat.{ℕ, suc, _-_, _^_, _<_}
+use Prim.Native.Nat.{ℕ, zero, suc, _-_, _^_, _<_}
 use mathlib.Core.Path.{_≡_, refl, sym, ap, _∙_}
 use mathlib.Core.Bool.{Bool, true, false}
 use native.Mathlib.Omega.{arith}
@@ -9,9 +9,15 @@ use lib.Signed.{ltZ}
 use mir.Syntax.{w64}
 use mir.Val.{SFits, toZ, ofZ}
 use mir.Facts.{toZ-ofZ}
-use Rattle.writers.specs.Signed.{negative}
+use Rattle.writers.specs.declared.Margin.{Margin}
+use Rattle.writers.specs.Signed.{marginOf}
 
-pub below-zero : (z : ℤ) → ltZ z (pos 0) ≡ negative z
+below : ℤ → Bool
+below (pos n) = false
+below (negsuc n) = true
+
+below-zero : (z : ℤ) → ltZ z (pos 0) ≡ below z
+unfolding below
 below-zero (pos n) = le-ltb n 0 (omega arith)
 below-zero (negsuc n) = refl
 
@@ -27,9 +33,10 @@ pub record Turned (z : ℤ) : Type 0 where
   pub value : toZ w64 (ofZ w64 (negsuc 0 -ℤ toZ w64 (ofZ w64 z))) ≡ pos n
 
 pub turn : (z : ℤ) → SFits w64 z → ltZ (toZ w64 (ofZ w64 z)) (pos 0) ≡ true → Turned z
+unfolding below
 turn z s e = go z s (sym (below-zero z) ∙ ap (λ (y : ℤ). ltZ y (pos 0)) (sym (toZ-ofZ s)) ∙ e)
   where
-    go : (z : ℤ) → SFits w64 z → negative z ≡ true → Turned z
+    go : (z : ℤ) → SFits w64 z → below z ≡ true → Turned z
     go (pos n) s e = absurd (no e)
       where
         no : false ≡ true → ⊥
@@ -53,11 +60,16 @@ pub record Plain (z : ℤ) : Type 0 where
   pub value : toZ w64 (ofZ w64 z) ≡ pos n
 
 pub plain : (z : ℤ) → SFits w64 z → ltZ (toZ w64 (ofZ w64 z)) (pos 0) ≡ false → Plain z
+unfolding below
 plain z s e = go z s (sym (below-zero z) ∙ ap (λ (y : ℤ). ltZ y (pos 0)) (sym (toZ-ofZ s)) ∙ e)
   where
-    go : (z : ℤ) → SFits w64 z → negative z ≡ false → Plain z
+    go : (z : ℤ) → SFits w64 z → below z ≡ false → Plain z
     go (negsuc n) s e = absurd (no e)
       where
         no : true ≡ false → ⊥
         no e = let z : _≡_ {A = ℕ} 0 1 = cc in omega arith
     go (pos n) s e = record { n = n; is = refl; small = s .sfits; value = toZ-ofZ s }
+
+pub some-margin : (n : ℕ) → (n ≡ 0 → ⊥) → marginOf (pos n) ≡ record { below = false; size = n; pass = 1 }
+some-margin zero h = absurd (h refl)
+some-margin (suc n) h = refl

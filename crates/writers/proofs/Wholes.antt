@@ -1,10 +1,12 @@
 -- A whole text: put from the front, or too long for the buffer.
 use Prim.Native.Nat.{ℕ, _+_, _<_, _≤_}
 use mathlib.Core.Path.{_≡_, refl, sym, ap, _∙_}
-use mathlib.Core.Bool.{true, false}
+use mathlib.Core.Bool.{Bool, true, false, _&&_}
+use mathlib.Core.Logic.{_⊎_, inl, inr}
 use mathlib.Core.List.{List, [], _∷_, _++_, append-assoc, append-nil}
 use native.Mathlib.Omega.{arith}
 use borrow.Author.Tests.{le-leb, lt-leb}
+use lib.Dec.{leb}
 use lib.ListN.{length, drop}
 use Prim.Native.String.{String}
 use Rattle.forms.specs.Bytes.{bytes}
@@ -12,8 +14,9 @@ use Rattle.forms.specs.Forms.{Form, crlf, line, lines, text}
 use Rattle.table.specs.Refused.{noRefusal}
 use Rattle.writers.specs.declared.Room.{Room}
 use Rattle.writers.specs.declared.Written.{Written}
+use Rattle.writers.specs.declared.TextsWritten.{TextsWritten}
 use Rattle.writers.specs.Outputs.{listing}
-use Rattle.writers.specs.Written.{tooShort, written, leaves, Wrote, Put, roomFor}
+use Rattle.writers.specs.Written.{tooShort, written, leaves, Wrote, bothFit, WroteBoth, Put, roomFor}
 use Rattle.writers.proofs.Puts.{sets-front}
 use Rattle.writers.proofs.Rooms.{enough-is, short-is, room-more, room-stop}
 
@@ -62,3 +65,40 @@ one-text F row = rw append-nil (sym (append-assoc (F .header) crlf (line row)))
 pub one-listing : (header : String) (row : List ℕ) → listing header (row ∷ []) ≡ bytes header ++ crlf ++ line row
 unfolding listing lines
 one-listing header row = rw append-nil (sym (append-assoc (bytes header) crlf (line row)))
+
+-- the answer and the buffer where the text fits
+module _ (text buffer after : List ℕ) (w : Written) (h : Wrote text buffer w after) (fits : length text ≤ length buffer) where
+  pub wrote-length : w .length ≡ length text
+  unfolding written
+  wrote-length = ap (λ (x : Written). x .length) (h .answers) ∙ rw (le-leb (length text) (length buffer) fits)
+
+  pub wrote-holds : after ≡ text ++ drop (length text) buffer
+  unfolding leaves
+  wrote-holds = h .holds ∙ rw (le-leb (length text) (length buffer) fits)
+
+-- two texts
+module _ (a b first second : List ℕ) where
+  not-both-fit : length first < length a ⊎ length second < length b → bothFit a b first second ≡ false
+  not-both-fit (inl l) = rw (lt-leb (length a) (length first) l)
+  not-both-fit (inr l) = rw (lt-leb (length b) (length second) l) (and-false (leb (length a) (length first)))
+    where
+      and-false : (x : Bool) → x && false ≡ false
+      and-false true = refl
+      and-false false = refl
+
+  pub both-short : (w : TextsWritten) → w ≡ record { refused = tooShort; platform = 0; tasks = 0 } → length first < length a ⊎ length second < length b
+      → WroteBoth a b first second w first second
+  both-short w e l =
+      let none = not-both-fit l in
+      record { answers = e ∙ rw none; holds₁ = rw none; holds₂ = rw none }
+
+  pub both-wrote : (after₁ after₂ : List ℕ) (w₁ w₂ : Written) → length a ≤ length first → length b ≤ length second → Wrote a first w₁ after₁ → Wrote b second w₂ after₂
+      → WroteBoth a b first second (record { refused = noRefusal; platform = w₁ .length; tasks = w₂ .length }) after₁ after₂
+  both-wrote after₁ after₂ w₁ w₂ l m g h =
+      let yes₁ = le-leb (length a) (length first) l in
+      let yes₂ = le-leb (length b) (length second) m in
+      record {
+        answers = rw (yes₁, yes₂, wrote-length a first after₁ w₁ g l, wrote-length b second after₂ w₂ h m);
+        holds₁ = rw (yes₁, yes₂) (wrote-holds a first after₁ w₁ g l);
+        holds₂ = rw (yes₁, yes₂) (wrote-holds b second after₂ w₂ h m);
+      }

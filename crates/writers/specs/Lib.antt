@@ -1,3 +1,3 @@
 pub mod Written
-pub mod Outputs
 pub mod Signed
+pub mod Outputs

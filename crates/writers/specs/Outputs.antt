@@ -1,7 +1,8 @@
--- The texts that are written: of a platform, of a table's rows, of ticks, and of a refusal. A table is written as it is, good or not.
-use Prim.Native.Nat.{ℕ}
+-- The texts that are written: of a platform, of a table's rows, of ticks, of margins, and of a refusal. A table is written as it is, good or not.
+use Prim.Native.Nat.{ℕ, suc}
 use Prim.Native.String.{String}
 use mathlib.Core.List.{List, [], _∷_, _++_, map}
+use lib.IntN.{ℤ}
 use lib.ListN.{take}
 use Rattle.forms.specs.Bytes.{bytes}
 use Rattle.forms.specs.Forms.{Form, crlf, lines, text, platformForm, tasksForm, ticksForm}
@@ -10,6 +11,7 @@ use Rattle.table.specs.declared.Task.{Task}
 use Rattle.table.specs.declared.Table.{Table}
 use Rattle.table.specs.declared.Refusal.{Refusal}
 use Rattle.table.specs.Tasks.{D, T, C, A}
+use Rattle.writers.specs.Signed.{marginOf, marginRow}
 
 abbrev pub platformRow : Platform → List ℕ
 platformRow platform = platform .cores .0 ∷ platform .partitions .0 ∷ []
@@ -38,3 +40,11 @@ listing header rows = bytes header ++ (crlf ++ lines rows)
 
 abbrev pub refusedText : Refusal → List ℕ
 refusedText r = listing "refused,row" ((r .number ∷ r .row ∷ []) ∷ [])
+
+-- of tasks k, k + 1, ..
+unfoldable pub marginLines : ℕ → List ℤ → List ℕ
+marginLines k [] = []
+marginLines k (z ∷ zs) = marginRow k (marginOf z) ++ marginLines (suc k) zs
+
+unfoldable pub marginsText : ℕ → List ℤ → List ℕ
+marginsText n margins = bytes "task,margin,pass" ++ (crlf ++ marginLines 1 (take n margins))

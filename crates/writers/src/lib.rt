@@ -1,15 +1,14 @@
 // Writers of document 01's texts into buffers that the caller lends. A text is measured first; where it does not fit, nothing is changed.
 ghost use Prim.Native.Nat.{_+_, _≤_, min};
 ghost use mathlib.Core.Path.{_≡_};
-ghost use mathlib.Core.List.{_++_};
-ghost use lib.IntN.{natAbs};
+ghost use mathlib.Core.List.{[], _∷_, _++_};
 ghost use lib.ListN.{length, take};
 ghost use Rattle.forms.specs.Digits.{digits};
 ghost use Rattle.forms.specs.Forms.{ending, line};
-ghost use Rattle.writers.specs.Outputs.{platformText, taskRow, tasksText, refusedText};
+ghost use Rattle.writers.specs.Outputs.{platformRow, platformText, taskRow, tasksText, ticksText, refusedText, marginsText};
 ghost use Rattle.table.specs.Limits.{mostTasks};
-ghost use Rattle.writers.specs.Signed.{negative};
-ghost use Rattle.writers.specs.Written.{Put, roomFor, tooShort, Wrote};
+ghost use Rattle.writers.specs.Signed.{marginOf, sign, marginRow};
+ghost use Rattle.writers.specs.Written.{Put, roomFor, tooShort, Wrote, WroteBoth};
 ghost use Rattle.table.specs.Refused.{noRefusal};
 use table::Platform;
 use table::Refusal;
@@ -185,17 +184,24 @@ impl Written {
     }
 }
 
+fn one_room(header: &[u8], numbers: [u64; 5], columns: usize, room: usize) -> Room
+    requires { ⌜ columns ≤ 5 ⌝ }
+    ensures { λ r. ⌜ r ≡ roomFor (now (header .entry) ++ line (take columns numbers)) room ⌝ }
+{
+    let head = word_room(header, room);
+    if !head.enough {
+        return head;
+    }
+    row_room(numbers, columns, head.left)
+}
+
 // A header line and one row.
 fn write_one(buf: &mut [u8], header: &[u8], numbers: [u64; 5], columns: usize) -> Written
     requires { ⌜ columns ≤ 5 ⌝ }
     ensures { λ r. ⌜ Wrote (now (header .entry) ++ line (take columns numbers)) (now (buf .entry)) r (now (buf .exit)) ⌝ }
 {
-    let head = word_room(header, buf.len());
-    if !head.enough {
-        return Written::short();
-    }
-    let row = row_room(numbers, columns, head.left);
-    if !row.enough {
+    let m = one_room(header, numbers, columns, buf.len());
+    if !m.enough {
         return Written::short();
     }
     let next = put_word(buf, 0, header);
@@ -203,11 +209,17 @@ fn write_one(buf: &mut [u8], header: &[u8], numbers: [u64; 5], columns: usize) -
     Written::whole(end)
 }
 
+fn platform_numbers(p: Platform) -> [u64; 5]
+    ensures { λ r. ⌜ take 2 r ≡ platformRow p ⌝ }
+{
+    [p.cores.0 as u64, p.partitions.0 as u64, 0, 0, 0]
+}
+
 // The text of a platform.
 pub fn write_platform(p: Platform, buf: &mut [u8]) -> Written
     ensures { λ r. ⌜ Wrote (platformText p) (now (buf .entry)) r (now (buf .exit)) ⌝ }
 {
-    let numbers = [p.cores.0 as u64, p.partitions.0 as u64, 0, 0, 0];
+    let numbers = platform_numbers(p);
     write_one(buf, b"cores,partitions\r\n", numbers, 2)
 }
 
@@ -225,11 +237,10 @@ fn task_numbers(t: Task) -> [u64; 5]
     [t.d as u64, t.t as u64, t.c as u64, t.a.0 as u64, 0]
 }
 
-// How many rows a table holds.
-fn held_rows(t: Table) -> usize
-    ensures { λ r. ⌜ r ≡ min (t .n) mostTasks ⌝ }
+fn fewer(a: usize, b: usize) -> usize
+    ensures { λ r. ⌜ r ≡ min a b ⌝ }
 {
-    if t.n < Table::MOST { t.n } else { Table::MOST }
+    if a < b { a } else { b }
 }
 
 fn tasks_room(t: Table, room: usize) -> Room
@@ -239,7 +250,7 @@ fn tasks_room(t: Table, room: usize) -> Room
     if !head.enough {
         return head;
     }
-    let n = held_rows(t);
+    let n = fewer(t.n, Table::MOST);
     let mut left = head.left;
     let mut i: usize = 0;
     while i < n {
@@ -262,7 +273,7 @@ fn put_tasks(buf: &mut [u8], t: Table) -> usize
     requires { ⌜ length (tasksText t) ≤ length (now buf) ⌝ }
     ensures { λ r. ⌜ Put (now (buf .entry)) 0 (tasksText t) r (now (buf .exit)) ⌝ }
 {
-    let n = held_rows(t);
+    let n = fewer(t.n, Table::MOST);
     let mut next = put_word(buf, 0, b"D,T,C,A\r\n");
     let mut i: usize = 0;
     while i < n {
@@ -286,17 +297,238 @@ pub fn write_tasks(t: Table, buf: &mut [u8]) -> Written
     Written::whole(end)
 }
 
-fn is_negative(z: i64) -> bool
-    ensures { λ r. ⌜ r ≡ negative z ⌝ }
-{
-    z < 0
+// A margin for the listing: whether it is negative, its size, and 1 where it is above 0.
+struct Margin {
+    below: bool,
+    size: u64,
+    pass: u64,
 }
 
-fn magnitude(z: i64) -> u64
-    ensures { λ r. ⌜ r ≡ natAbs z ⌝ }
+fn margin_of(z: i64) -> Margin
+    ensures { λ r. ⌜ r ≡ marginOf z ⌝ }
 {
     if z < 0 {
-        return ((-1 - z) as u64) + 1;
+        return Margin {
+            below: true,
+            size: ((-1 - z) as u64) + 1,
+            pass: 0,
+        };
     }
-    z as u64
+    let size = z as u64;
+    if size == 0 {
+        return Margin {
+            below: false,
+            size: 0,
+            pass: 0,
+        };
+    }
+    Margin {
+        below: false,
+        size: size,
+        pass: 1,
+    }
+}
+
+fn sign_room(below: bool, room: usize) -> Room
+    ensures { λ r. ⌜ r ≡ roomFor (sign below) room ⌝ }
+{
+    if below {
+        return word_room(b"-", room);
+    }
+    Room {
+        enough: true,
+        left: room,
+    }
+}
+
+fn put_sign(buf: &mut [u8], at: usize, below: bool) -> usize
+    requires { ⌜ at + length (sign below) ≤ length (now buf) ⌝ }
+    ensures { λ r. ⌜ Put (now (buf .entry)) at (sign below) r (now (buf .exit)) ⌝ }
+{
+    if below {
+        return put_word(buf, at, b"-");
+    }
+    at
+}
+
+fn margin_room(k: u64, m: Margin, room: usize) -> Room
+    ensures { λ r. ⌜ r ≡ roomFor (marginRow k m) room ⌝ }
+{
+    let task = cell_room(k, 2, room);
+    if !task.enough {
+        return task;
+    }
+    let sign = sign_room(m.below, task.left);
+    if !sign.enough {
+        return sign;
+    }
+    let margin = cell_room(m.size, 1, sign.left);
+    if !margin.enough {
+        return margin;
+    }
+    cell_room(m.pass, 0, margin.left)
+}
+
+// The row of a task and its margin.
+fn put_margin(buf: &mut [u8], at: usize, k: u64, m: Margin) -> usize
+    requires { ⌜ at + length (marginRow k m) ≤ length (now buf) ⌝ }
+    ensures { λ r. ⌜ Put (now (buf .entry)) at (marginRow k m) r (now (buf .exit)) ⌝ }
+{
+    let task = put_cell(buf, at, k, 2);
+    let sign = put_sign(buf, task, m.below);
+    let margin = put_cell(buf, sign, m.size, 1);
+    put_cell(buf, margin, m.pass, 0)
+}
+
+fn margins_room(n: usize, margins: [i64; Table::MOST], room: usize) -> Room
+    requires { ⌜ n ≤ mostTasks ⌝ }
+    ensures { λ r. ⌜ r ≡ roomFor (marginsText n margins) room ⌝ }
+{
+    let head = word_room(b"task,margin,pass\r\n", room);
+    if !head.enough {
+        return head;
+    }
+    let mut left = head.left;
+    let mut i: usize = 0;
+    while i < n {
+        let z = margins[i];
+        let m = margin_of(z);
+        i += 1;
+        let row = margin_room(i as u64, m, left);
+        if !row.enough {
+            return row;
+        }
+        left = row.left;
+    }
+    Room {
+        enough: true,
+        left: left,
+    }
+}
+
+fn put_margins(buf: &mut [u8], n: usize, margins: [i64; Table::MOST]) -> usize
+    requires { ⌜ (n ≤ mostTasks) × (length (marginsText n margins) ≤ length (now buf)) ⌝ }
+    ensures { λ r. ⌜ Put (now (buf .entry)) 0 (marginsText n margins) r (now (buf .exit)) ⌝ }
+{
+    let mut next = put_word(buf, 0, b"task,margin,pass\r\n");
+    let mut i: usize = 0;
+    while i < n {
+        let z = margins[i];
+        let m = margin_of(z);
+        i += 1;
+        next = put_margin(buf, next, i as u64, m);
+    }
+    next
+}
+
+// The listing `task,margin,pass` of tasks 1 to n.
+pub fn write_margins(n: usize, margins: [i64; Table::MOST], buf: &mut [u8]) -> Written
+    ensures { λ r. ⌜ Wrote (marginsText n margins) (now (buf .entry)) r (now (buf .exit)) ⌝ }
+{
+    let rows = fewer(n, Table::MOST);
+    let m = margins_room(rows, margins, buf.len());
+    if !m.enough {
+        return Written::short();
+    }
+    let end = put_margins(buf, rows, margins);
+    Written::whole(end)
+}
+
+fn tick_numbers(released: u32, finished: u32) -> [u64; 5]
+    ensures { λ r. ⌜ take 2 r ≡ released ∷ finished ∷ [] ⌝ }
+{
+    [released as u64, finished as u64, 0, 0, 0]
+}
+
+fn ticks_room(released: &[u32], finished: &[u32], room: usize) -> Room
+    ensures { λ r. ⌜ r ≡ roomFor (ticksText (now (released .entry)) (now (finished .entry))) room ⌝ }
+{
+    let head = word_room(b"released,finished\r\n", room);
+    if !head.enough {
+        return head;
+    }
+    let n = fewer(released.len(), finished.len());
+    let mut left = head.left;
+    let mut i: usize = 0;
+    while i < n {
+        let numbers = tick_numbers(released[i], finished[i]);
+        let row = row_room(numbers, 2, left);
+        if !row.enough {
+            return row;
+        }
+        left = row.left;
+        i += 1;
+    }
+    Room {
+        enough: true,
+        left: left,
+    }
+}
+
+fn put_ticks(buf: &mut [u8], released: &[u32], finished: &[u32]) -> usize
+    requires { ⌜ length (ticksText (now released) (now finished)) ≤ length (now buf) ⌝ }
+    ensures { λ r. ⌜ Put (now (buf .entry)) 0 (ticksText (now (released .entry)) (now (finished .entry))) r (now (buf .exit)) ⌝ }
+{
+    let n = fewer(released.len(), finished.len());
+    let mut next = put_word(buf, 0, b"released,finished\r\n");
+    let mut i: usize = 0;
+    while i < n {
+        let numbers = tick_numbers(released[i], finished[i]);
+        next = put_row(buf, next, numbers, 2);
+        i += 1;
+    }
+    next
+}
+
+// The ticks text of the sets released and finished, tick by tick, as many as both slices have.
+pub fn write_ticks(released: &[u32], finished: &[u32], buf: &mut [u8]) -> Written
+    ensures { λ r. ⌜ Wrote (ticksText (now (released .entry)) (now (finished .entry))) (now (buf .entry)) r (now (buf .exit)) ⌝ }
+{
+    let m = ticks_room(released, finished, buf.len());
+    if !m.enough {
+        return Written::short();
+    }
+    let end = put_ticks(buf, released, finished);
+    Written::whole(end)
+}
+
+pub struct TextsWritten {
+    pub refused: Refusal,
+    pub platform: usize,
+    pub tasks: usize,
+}
+
+impl TextsWritten {
+    fn short() -> TextsWritten
+        ensures { λ r. ⌜ r ≡ record { refused = tooShort; platform = 0; tasks = 0 } ⌝ }
+    {
+        TextsWritten {
+            refused: Refusal { number: 16, row: 0 },
+            platform: 0,
+            tasks: 0,
+        }
+    }
+}
+
+// Both texts of a table, or neither.
+pub fn write_texts(t: Table, platform: &mut [u8], tasks: &mut [u8]) -> TextsWritten
+    ensures { λ r. ⌜ WroteBoth (platformText (t .platform)) (tasksText t) (now (platform .entry)) (now (tasks .entry)) r (now (platform .exit)) (now (tasks .exit)) ⌝ }
+{
+    let p = t.platform;
+    let numbers = platform_numbers(p);
+    let first = one_room(b"cores,partitions\r\n", numbers, 2, platform.len());
+    if !first.enough {
+        return TextsWritten::short();
+    }
+    let second = tasks_room(t, tasks.len());
+    if !second.enough {
+        return TextsWritten::short();
+    }
+    let a = write_platform(p, platform);
+    let b = write_tasks(t, tasks);
+    TextsWritten {
+        refused: Refusal { number: 0, row: 0 },
+        platform: a.length,
+        tasks: b.length,
+    }
 }

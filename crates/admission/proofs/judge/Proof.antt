@@ -25,7 +25,7 @@ abbrev μ-loop2 : tie.MeasureT-loop2
 
 abbrev Inv-loop : tie.InvT-loop
 Inv-loop t n m p margins₀ first₀ most₀ k₀ margins first most k =
-    (k ≤ n) × (margins ≡ marginsTo t k) × (first ≡ lowest k (λ j. not (passes t j))) × (most ≡ Amax t k)
+    (k ≤ n) × (margins ≡ marginsTo t k) × (first ≡ lowest k (λ j. not (passes t j))) × (most .0 ≡ Amax t k)
 
 abbrev μ-loop : tie.MeasureT-loop
 μ-loop t n m p margins₀ first₀ most₀ k₀ margins first most k = n - k
@@ -42,20 +42,20 @@ element-copy-out-measured c = search needs
 measured-requires : tie.Need-measured-requires Inv-loop2 μ-loop2 Inv-loop μ-loop
 measured-requires c κs =
     let o = c .before .before in
-    let g = o .before .pre in
-    let most : o .loop .most ≤ P (o .before .args .t1) = rw (o .loop .inv .3) (Amax-le g (o .loop .k) (o .loop .inv .0)) in
+    let g = o .before .before .before .pre in
+    let most : o .loop .most .0 ≤ P (o .before .before .before .args .t1) = rw (o .loop .inv .3) (Amax-le g (o .loop .k) (o .loop .inv .0)) in
     (most, g .partitions, g .row (o .loop .k) (c .before .loop-test .taken))
 
-known : (c : tie.After-measured Inv-loop2 μ-loop2 Inv-loop μ-loop) → Measured (c .before .before .before .before .args .t1) (c .before .before .before .loop .k) (c .measured .result)
+known : (c : tie.After-measured Inv-loop2 μ-loop2 Inv-loop μ-loop) → Measured (c .before .before .before .before .before .before .args .t1) (c .before .before .before .loop .k) (c .measured .result)
 known c =
     let o = c .before .before .before in
     let e = c .measured .ensures in
-    measured (o .before .pre) (c .before .before .loop-test .taken) (o .loop .inv .3) (e .0) (e .1) (e .2)
+    measured (o .before .before .before .pre) (c .before .before .loop-test .taken) (o .loop .inv .3) (e .0) (e .1) (e .2)
 
 loop2-holds : tie.Need-loop2-holds Inv-loop2 μ-loop2 Inv-loop μ-loop
 loop2-holds c =
-    let t = c .before .before in
-    (search needs, loading-none (t .before .before .pre) (t .loop-test .taken) (known c))
+    let t = c .before .before .before in
+    (search needs, loading-none (t .before .before .before .before .pre) (t .loop-test .taken) (known (c .before)))
 
 mul-term : tie.Need-mul-term Inv-loop2 μ-loop2 Inv-loop μ-loop
 mul-term c = search needs
@@ -66,19 +66,19 @@ element-copy-out-term c = search needs
 term-requires : tie.Need-term-requires Inv-loop2 μ-loop2 Inv-loop μ-loop
 term-requires c κs =
     let l = c .before .before in
-    let t = l .before .before .before in
-    let g = t .before .before .pre in
+    let t = l .before .before .before .before in
+    let g = t .before .before .before .before .pre in
     let m = l .loop2 .inv .1 .measures in
     (g .cores, b-le g (t .loop-test .taken) m, s-le g (t .loop-test .taken) m, row-good g (l .loop2 .i) (c .before .loop2-test .taken))
 
 -- the load after a turn
 more : (c : tie.After-term Inv-loop2 μ-loop2 Inv-loop μ-loop)
-    → Loading (c .before .before .before .before .before .before .before .before .args .t1) (c .before .before .before .before .before .before .before .loop .k)
-    (c .before .before .before .before .measured .result) (c .before .before .before .loop2 .load + c .term .result) (c .before .before .before .loop2 .i + 1)
+    → Loading (c .before .before .before .before .before .before .before .before .before .before .before .args .t1) (c .before .before .before .before .before .before .before .before .loop .k)
+    (c .before .before .before .before .before .measured .result) (c .before .before .before .loop2 .load + c .term .result) (c .before .before .before .loop2 .i + 1)
 more c =
     let l = c .before .before .before in
-    let t = l .before .before .before in
-    loading-more (t .before .before .pre) (t .loop-test .taken) (c .before .before .loop2-test .taken) (l .loop2 .inv .1) (c .term .ensures)
+    let t = l .before .before .before .before in
+    loading-more (t .before .before .before .before .pre) (t .loop-test .taken) (c .before .before .loop2-test .taken) (l .loop2 .inv .1) (c .term .ensures)
 
 add-load : tie.Need-add-load Inv-loop2 μ-loop2 Inv-loop μ-loop
 add-load c = omega (arith, more c .small)
@@ -94,29 +94,29 @@ loop2-again c = (search needs, more c)
 
 limited-requires : tie.Need-limited-requires Inv-loop2 μ-loop2 Inv-loop μ-loop
 limited-requires c κs =
-    let x = c .before .before in
-    let t = x .before .before in
-    let g = t .before .before .pre in
-    (g .cores, b-le g (t .loop-test .taken) (known x), s-le g (t .loop-test .taken) (known x))
-
-limit-of : (c : tie.After-limited Inv-loop2 μ-loop2 Inv-loop μ-loop) → c .limited .result ≡ limit (c .before .before .before .before .before .before .before .args .t1) (suc (c .before .before .before .before .before .before .loop .k))
-limit-of c =
     let x = c .before .before .before in
     let t = x .before .before in
-    c .limited .ensures ∙ limit-is (t .before .before .pre) (t .loop-test .taken) (known x)
+    let g = t .before .before .before .before .pre in
+    (g .cores, b-le g (t .loop-test .taken) (known x), s-le g (t .loop-test .taken) (known x))
 
-load-of : (c : tie.After-limited Inv-loop2 μ-loop2 Inv-loop μ-loop) → c .before .before .loop2 .load ≡ load (c .before .before .before .before .before .before .before .args .t1) (suc (c .before .before .before .before .before .before .loop .k))
+limit-of : (c : tie.After-limited Inv-loop2 μ-loop2 Inv-loop μ-loop) → c .limited .result ≡ limit (c .before .before .before .before .before .before .before .before .before .before .args .t1) (suc (c .before .before .before .before .before .before .before .loop .k))
+limit-of c =
+    let x = c .before .before .before .before in
+    let t = x .before .before in
+    c .limited .ensures ∙ limit-is (t .before .before .before .before .pre) (t .loop-test .taken) (known x)
+
+load-of : (c : tie.After-limited Inv-loop2 μ-loop2 Inv-loop μ-loop) → c .before .before .loop2 .load ≡ load (c .before .before .before .before .before .before .before .before .before .before .args .t1) (suc (c .before .before .before .before .before .before .before .loop .k))
 load-of c =
     let l = c .before .before in
-    let o = l .before .before .before .before in
-    let at-end : l .loop2 .i ≡ o .before .args .t1 .n = omega arith in
-    l .loop2 .inv .1 .is ∙ rw at-end (load-all (o .before .args .t1) (suc (o .loop .k)))
+    let o = l .before .before .before .before .before in
+    let at-end : l .loop2 .i ≡ o .before .before .before .args .t1 .n = omega arith in
+    l .loop2 .inv .1 .is ∙ rw at-end (load-all (o .before .before .before .args .t1) (suc (o .loop .k)))
 
 difference-requires : tie.Need-difference-requires Inv-loop2 μ-loop2 Inv-loop μ-loop
 difference-requires c κs =
-    let t = c .before .before .before .before .before in
+    let t = c .before .before .before .before .before .before in
     let o = t .before in
-    (rw (limit-of c) (limit-small (o .before .pre) (o .loop .k) (t .loop-test .taken)), rw (load-of c) (load-small (o .before .pre) (o .loop .k) (t .loop-test .taken)))
+    (rw (limit-of c) (limit-small (o .before .before .before .pre) (o .loop .k) (t .loop-test .taken)), rw (load-of c) (load-small (o .before .before .before .pre) (o .loop .k) (t .loop-test .taken)))
 
 mul-margins : tie.Need-mul-margins Inv-loop2 μ-loop2 Inv-loop μ-loop
 mul-margins c = search needs
@@ -136,21 +136,21 @@ loop-less c = search needs
 loop-again : tie.Need-loop-again Inv-loop2 μ-loop2 Inv-loop μ-loop
 loop-again c =
     let d = c .before in
-    let o = d .before .before .before .before .before .before .before in
-    let t = o .before .args .t1 in
+    let o = d .before .before .before .before .before .before .before .before in
+    let t = o .before .before .before .args .t1 in
     let k = o .loop .k in
     let is : toZ w64 (ofZ w64 (d .difference .result)) ≡ margin t (suc k) =
     toZ-ofZ {w = w64} (record { sfits = d .difference .ok }) ∙ (d .difference .ensures ∙ rw (limit-of (d .before), load-of (d .before))) in (
       search needs,
-      rw (is, o .loop .inv .1) (margins-more t k (omega (arith, o .before .pre .few))),
+      rw (is, o .loop .inv .1) (margins-more t k (omega (arith, o .before .before .before .pre .few))),
       c .first-with .ensures ∙ rw (is, o .loop .inv .2) (sym (lowest-more (λ j. not (passes t j)) k)),
-      known (d .before .before .before .before) .most ∙ rw (add-one k),
+      known (d .before .before .before .before .before) .most ∙ rw (add-one k),
     )
 
 returns : tie.Need-returns Inv-loop2 μ-loop2 Inv-loop μ-loop
 returns c =
     let l = c .before in
-    let at-end : l .loop .k ≡ l .before .args .t1 .n = omega arith in
+    let at-end : l .loop .k ≡ l .before .before .before .args .t1 .n = omega arith in
     rw (l .loop .inv .1, l .loop .inv .2, at-end)
 
 pub judge-spec : {M : Type 1} → statement M

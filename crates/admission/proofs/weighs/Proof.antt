@@ -4,7 +4,7 @@ use Rattle.admission.proofs.weighs.Statement.{statement}
 use Rattle.admission.proofs.weighs.Tie as tie
 
 mul-share : tie.Need-mul-share
-mul-share c = let s = c .before in fits-mul 16 64 tt (s .pre .0) (s .pre .1 .room)
+mul-share c = let s = c .before .before in fits-mul 16 64 tt (s .pre .0) (s .pre .1 .room)
 
 returns : tie.Need-returns
 returns c = search needs

@@ -24,27 +24,27 @@ abbrev μ-loop : tie.MeasureT-loop
 rows-32 : (c : tie.Start Inv-loop μ-loop) → length (c .args .t2 .rows) ≡ mostTasks
 rows-32 c = search (len-mapped, needs)
 
-split : (c : tie.After-held-rows Inv-loop μ-loop)
-    → tasksText (c .before .before .args .t2) ≡ tasksForm .header ++ crlf ++ rowsFrom (c .before .before .args .t2) (c .held-rows .result) 0
-split c = tasks-split (c .before .before .args .t2) (rows-32 (c .before .before)) (c .held-rows .result) (c .held-rows .ensures)
+split : (c : tie.After-fewer Inv-loop μ-loop)
+    → tasksText (c .before .before .args .t2) ≡ tasksForm .header ++ crlf ++ rowsFrom (c .before .before .args .t2) (c .fewer .result) 0
+split c = tasks-split (c .before .before .args .t2) (rows-32 (c .before .before)) (c .fewer .result) (c .fewer .ensures)
 
 -- the whole text has room
-fits : (c : tie.After-held-rows Inv-loop μ-loop)
-    → 0 + length (tasksForm .header ++ crlf ++ rowsFrom (c .before .before .args .t2) (c .held-rows .result) 0) ≤ length (now (c .before .before .args .buf))
+fits : (c : tie.After-fewer Inv-loop μ-loop)
+    → 0 + length (tasksForm .header ++ crlf ++ rowsFrom (c .before .before .args .t2) (c .fewer .result) 0) ≤ length (now (c .before .before .args .buf))
 fits c = let size = ap length (split c) in let pre = c .before .before .pre in omega arith
 
 more : (c : tie.After-task-numbers Inv-loop μ-loop) →
     let k = c .before .before .before in
     let h = k .before .before .before .before .before .before in
     let t = h .before .before .args .t2 in
-    rowsFrom t (h .held-rows .result) (k .loop .i) ≡ line (take 4 (c .task-numbers .result)) ++ rowsFrom t (h .held-rows .result) (k .loop .i + 1)
+    rowsFrom t (h .fewer .result) (k .loop .i) ≡ line (take 4 (c .task-numbers .result)) ++ rowsFrom t (h .fewer .result) (k .loop .i + 1)
 more c =
     let k = c .before .before .before in
     let h = k .before .before .before .before .before .before in
-    rows-more (h .before .before .args .t2) (rows-32 (h .before .before)) (h .held-rows .result) (h .held-rows .ensures) (k .loop .i) (c .before .before .loop-test .taken) (c .task-numbers .result) (c .task-numbers .ensures)
+    rows-more (h .before .before .args .t2) (rows-32 (h .before .before)) (h .fewer .result) (h .fewer .ensures) (k .loop .i) (c .before .before .loop-test .taken) (c .task-numbers .result) (c .task-numbers .ensures)
 
-held-rows-requires : tie.Need-held-rows-requires Inv-loop μ-loop
-held-rows-requires c κs = search needs
+fewer-requires : tie.Need-fewer-requires Inv-loop μ-loop
+fewer-requires c κs = search needs
 
 slice-aggregate-put-word : tie.Need-slice-aggregate-put-word Inv-loop μ-loop
 slice-aggregate-put-word c = search needs
@@ -52,7 +52,7 @@ slice-aggregate-put-word c = search needs
 put-word-requires : tie.Need-put-word-requires Inv-loop μ-loop
 put-word-requires c κs =
     let h = c .before .before in
-    omega (arith, fits h, length-append (tasksForm .header ++ crlf) (rowsFrom (h .before .before .args .t2) (h .held-rows .result) 0))
+    omega (arith, fits h, length-append (tasksForm .header ++ crlf) (rowsFrom (h .before .before .args .t2) (h .fewer .result) 0))
 
 loop-holds : tie.Need-loop-holds Inv-loop μ-loop
 loop-holds c = (search needs, refl, putting-start)
@@ -62,7 +62,7 @@ mul-task c = search needs
 
 element-copy-out-task : tie.Need-element-copy-out-task Inv-loop μ-loop
 element-copy-out-task c =
-    let n = c .before .before .before .before .before .before .before .held-rows .ensures in
+    let n = c .before .before .before .before .before .before .before .fewer .ensures in
     omega arith
 
 task-numbers-requires : tie.Need-task-numbers-requires Inv-loop μ-loop
@@ -73,7 +73,7 @@ put-row-requires c κs =
     let k = c .before .before .before .before in
     let h = k .before .before .before .before .before .before in
     let t = h .before .before .args .t2 in
-    let n = h .held-rows .result in
+    let n = h .fewer .result in
     let room = put-room (rowsFrom t n 0) (k .before .before .before .put-word .ensures) (fits h) in
     (search needs, putting-room (k .loop .inv .2) (line (take 4 (c .before .task-numbers .result))) (rowsFrom t n (k .loop .i + 1)) (more (c .before)) room)
 
@@ -99,7 +99,7 @@ returns : tie.Need-returns Inv-loop μ-loop
 returns c =
     let k = c .before in
     let h = k .before .before .before .before .before .before in
-    let none = rows-end (h .before .before .args .t2) (rows-32 (h .before .before)) (h .held-rows .result) (h .held-rows .ensures) (k .loop .i) (c .loop-test .left) in
+    let none = rows-end (h .before .before .args .t2) (rows-32 (h .before .before)) (h .fewer .result) (h .fewer .ensures) (k .loop .i) (c .loop-test .left) in
     rw (split h) (put-then (k .before .before .before .put-word .ensures) (putting-end (k .loop .inv .2) none))
 
 pub put-tasks-spec : {M : Type 1} → statement M
@@ -108,7 +108,7 @@ put-tasks-spec =
     (tie.spec
     Inv-loop
     μ-loop
-    held-rows-requires
+    fewer-requires
     slice-aggregate-put-word
     put-word-requires
     loop-holds

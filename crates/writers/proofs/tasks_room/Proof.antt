@@ -38,14 +38,14 @@ returns c =
     let t = k .args .t1 in
     rw (tasks-split t (rows-32 k) (min (t .n) mostTasks) refl) (room-halt _ _ _ _ (c .before .before .word-room .ensures) (not-true _ (c .if1 .taken)))
 
-held-rows-requires : tie.Need-held-rows-requires Inv-loop μ-loop
-held-rows-requires c κs = search needs
+fewer-requires : tie.Need-fewer-requires Inv-loop μ-loop
+fewer-requires c κs = search needs
 
 loop-holds : tie.Need-loop-holds Inv-loop μ-loop
 loop-holds c =
     let k = c .before .before .before .before .before in (
       search needs,
-      ap (λ (l : List ℕ). roomFor l (k .args .room)) (tasks-split (k .args .t1) (rows-32 k) _ (c .held-rows .ensures))
+      ap (λ (l : List ℕ). roomFor l (k .args .room)) (tasks-split (k .args .t1) (rows-32 k) _ (c .fewer .ensures))
           ∙ room-more _ _ _ _ (c .before .before .before .word-room .ensures) (not-false _ (c .before .if1 .left)),
     )
 
@@ -54,7 +54,7 @@ mul-task c = search needs
 
 element-copy-out-task : tie.Need-element-copy-out-task Inv-loop μ-loop
 element-copy-out-task c =
-    let n = c .before .before .held-rows .ensures in
+    let n = c .before .before .fewer .ensures in
     omega arith
 
 task-numbers-requires : tie.Need-task-numbers-requires Inv-loop μ-loop
@@ -67,7 +67,7 @@ returns-2 : tie.Need-returns-2 Inv-loop μ-loop
 returns-2 c =
     let k = c .before .before .before .before .before .before in
     let s = k .before .before .before .before .before .before in
-    let n = k .before .held-rows in
+    let n = k .before .fewer in
     let numbers = c .before .before .before .task-numbers in
     let less = c .before .before .before .before .before .loop-test .taken in
     let more = rows-more (s .args .t1) (rows-32 s) (n .result) (n .ensures) (k .loop .i) less (numbers .result) (numbers .ensures) in
@@ -84,7 +84,7 @@ loop-again : tie.Need-loop-again Inv-loop μ-loop
 loop-again c =
     let k = c .before .before .before .before .before .before in
     let s = k .before .before .before .before .before .before in
-    let n = k .before .held-rows in
+    let n = k .before .fewer in
     let numbers = c .before .before .before .task-numbers in
     let less = c .before .before .before .before .before .loop-test .taken in
     let more = rows-more (s .args .t1) (rows-32 s) (n .result) (n .ensures) (k .loop .i) less (numbers .result) (numbers .ensures) in (
@@ -98,7 +98,7 @@ returns-3 : tie.Need-returns-3 Inv-loop μ-loop
 returns-3 c =
     let k = c .before in
     let s = k .before .before .before .before .before .before in
-    let n = k .before .held-rows in
+    let n = k .before .fewer in
     let none = rows-end (s .args .t1) (rows-32 s) (n .result) (n .ensures) (k .loop .i) (c .loop-test .left) in
     sym (k .loop .inv .1 ∙ ap (λ (l : List ℕ). roomFor l (k .loop .left)) none ∙ room-none (k .loop .left))
 
@@ -111,7 +111,7 @@ tasks-room-spec =
     slice-aggregate-word-room
     word-room-requires
     returns
-    held-rows-requires
+    fewer-requires
     loop-holds
     mul-task
     element-copy-out-task

@@ -1,15 +1,11 @@
 use borrow.Author.Needs.{needs}
 use Rattle.forms.specs.Forms.{platformForm}
-use Rattle.writers.specs.Outputs.{platformRow}
 use Rattle.writers.proofs.Wholes.{one-text}
 use Rattle.writers.proofs.write_platform.Statement.{statement}
 use Rattle.writers.proofs.write_platform.Tie as tie
 
-cast-t5 : tie.Need-cast-t5
-cast-t5 c = search needs
-
-cast-t6 : tie.Need-cast-t6
-cast-t6 c = search needs
+platform-numbers-requires : tie.Need-platform-numbers-requires
+platform-numbers-requires c κs = search needs
 
 slice-aggregate-write-one : tie.Need-slice-aggregate-write-one
 slice-aggregate-write-one c = search needs
@@ -21,9 +17,16 @@ same-length : tie.Need-same-length
 same-length c = search needs
 
 returns : tie.Need-returns
-returns c = rw (one-text platformForm) (c .before .before .write-one .ensures)
+returns c =
+    let numbers = c .before .before .before .before .before .platform-numbers .ensures in
+    rw (one-text platformForm) (rw numbers at (c .before .before .write-one .ensures))
 
 pub write-platform-spec : {M : Type 1} → statement M
 write-platform-spec =
     tie.close
-    (tie.spec cast-t5 cast-t6 slice-aggregate-write-one write-one-requires same-length returns)
+    (tie.spec
+    platform-numbers-requires
+    slice-aggregate-write-one
+    write-one-requires
+    same-length
+    returns)

@@ -1,0 +1,141 @@
+// Times the proved functions beside the plain C version, both called from here and in turn. Given any word, it runs a few rounds of each
+// instead, between system calls that mark them, for a count of their instructions.
+#include "rounds.h"
+
+int printf(const char *form, ...);
+int fflush(void *stream);
+i64 write(int file, const void *bytes, u64 count);
+struct when {
+    i64 seconds, nanoseconds;
+};
+int clock_gettime(int clock, struct when *now);
+
+enum { MONOTONIC = 1, REPETITIONS = 9, MOST_CASES = 64, WORDS = 3 + 4 * MOST_TASKS };
+
+typedef struct input input;
+typedef u64 rounds(const input *x, u64 n);
+
+struct input {
+    const char *what, *how;
+    u32 tasks;
+    rounds *proved, *plain;
+    u32 words[WORDS], p, q;
+};
+
+static input cases[MOST_CASES];
+static int case_count;
+
+static i64 now(void) {
+    struct when w;
+    clock_gettime(MONOTONIC, &w);
+    return w.seconds * 1000000000 + w.nanoseconds;
+}
+
+static i64 took(rounds *f, const input *x, u64 n, u64 *answer) {
+    i64 began = now();
+    *answer = f(x, n);
+    return now() - began;
+}
+
+static int differ(const input *x, u64 proved, u64 plain) {
+    if (proved == plain) return 0;
+    printf("%s, %u tasks, %s: the answers differ\n", x->what, x->tasks, x->how);
+    return 1;
+}
+
+// Rounds that take the plain version about a twentieth of a second.
+static u64 enough(const input *x) {
+    u64 n = 16, answer;
+    while (took(x->plain, x, n, &answer) < 25000000) n *= 2;
+    return 2 * n;
+}
+
+// The best of several repetitions of each, in nanoseconds a round.
+static int timed(const input *x) {
+    u64 n = enough(x), a, b;
+    i64 proved = 0, plain = 0;
+    for (int i = 0; i < REPETITIONS; i++) {
+        i64 first = took(x->proved, x, n, &a), second = took(x->plain, x, n, &b);
+        if (differ(x, a, b)) return 1;
+        if (!i || first < proved) proved = first;
+        if (!i || second < plain) plain = second;
+    }
+    printf("%s|%u|%s|%.2f|%.2f\n", x->what, x->tasks, x->how, (double)proved / n, (double)plain / n);
+    fflush(0);
+    return 0;
+}
+
+// A call that fails: what is executed between two of them is counted.
+static void mark(void) { write(-1, "", 0); }
+
+static int counted(const input *x) {
+    u64 a = 0, b = 0;
+    for (u64 n = 10; n <= 20; n += 10) {
+        mark();
+        a += x->proved(x, n);
+        mark();
+        b += x->plain(x, n);
+        mark();
+    }
+    return differ(x, a, b);
+}
+
+static u64 proved_full(const input *x, u64 n) { return bench_full(x->words, WORDS, x->p, x->q, n); }
+static u64 c_full(const input *x, u64 n) { return plain_full(x->words, WORDS, x->p, x->q, n); }
+static u64 proved_quick(const input *x, u64 n) { return bench_quick(x->words, WORDS, x->p, x->q, n); }
+static u64 c_quick(const input *x, u64 n) { return plain_quick(x->words, WORDS, x->p, x->q, n); }
+
+static input *add(const char *what, u32 tasks, const char *how, rounds *proved, rounds *plain) {
+    input *x = &cases[case_count++];
+    x->what = what;
+    x->tasks = tasks;
+    x->how = how;
+    x->proved = proved;
+    x->plain = plain;
+    return x;
+}
+
+// A table of n tasks that is admitted; or, with a slack of 0 for the first task, one that fails there.
+static void admission_words(input *x, u32 n, int fails) {
+    u32 *w = x->words;
+    w[0] = n;
+    w[1] = 8;
+    for (u32 i = 0; i < n; i++) {
+        u32 *row = w + 3 + 4 * i, period = 20000 + 1000 * i;
+        row[0] = period - 500;
+        row[1] = period;
+        row[2] = 3 + i % 5;
+        row[3] = 1 + i % 4;
+    }
+    if (fails) w[5] = w[3];
+    w[2] = x->p = 64;
+    x->q = 63;
+}
+
+// The table has to do what its case says.
+static int admission_case(int is_quick, u32 n, int fails) {
+    const char *what = is_quick ? "quick answer" : "full answer", *how = fails ? "first task fails" : "admitted";
+    input *x = add(what, n, how, is_quick ? proved_quick : proved_full, is_quick ? c_quick : c_full);
+    admission_words(x, n, fails);
+    table t = table_of(x->words, WORDS);
+    quick a;
+    quick_answer(&t, &a);
+    if (a.refused.number || a.first != (u64)fails) return printf("%s, %u tasks: not %s\n", what, n, how);
+    return 0;
+}
+
+static int admission_cases(void) {
+    static const u32 sizes[3] = {1, 8, 32};
+    int bad = 0;
+    for (int is_quick = 0; is_quick < 2; is_quick++)
+        for (int fails = 0; fails < 2; fails++)
+            for (int i = 0; i < 3; i++) bad += admission_case(is_quick, sizes[i], fails);
+    return bad;
+}
+
+int main(int count, char **words) {
+    (void)words;
+    int bad = admission_cases();
+    for (int i = 0; i < case_count; i++) bad += count > 1 ? counted(&cases[i]) : timed(&cases[i]);
+    return bad != 0;
+}

@@ -1,0 +1,43 @@
+// Rounds of the plain version: the same inputs, changed in the same way, and the same fold as in crates/bench.
+// One unit with what it times, as the archive is one, so that both are compiled with all of their code in view.
+#include "rounds.h"
+#include "plain.c"
+
+static u64 fold(u64 h, u64 x) { return h % 4294967296 * 31 + x % 4294967296; }
+
+static u32 word(const u32 *words, u64 count, u64 i) { return i < count ? words[i] : 0; }
+
+table table_of(const u32 *words, u64 count) {
+    u32 n = word(words, count, 0);
+    table t = {.n = n < MOST_TASKS ? n : MOST_TASKS, .cores = word(words, count, 1), .partitions = word(words, count, 2)};
+    for (u64 i = 0; i < t.n; i++)
+        t.rows[i] = (task){word(words, count, 4 * i + 3), word(words, count, 4 * i + 4), word(words, count, 4 * i + 5), word(words, count, 4 * i + 6)};
+    return t;
+}
+
+static u64 without_sign(i64 x) { return x < 0 ? ~x : x; }
+
+u64 plain_full(const u32 *words, u64 count, u32 p, u32 q, u64 n) {
+    table t = table_of(words, count);
+    u64 h = 0;
+    for (u64 i = 0; i < n; i++) {
+        full a;
+        t.partitions = i % 2 == 0 ? p : q;
+        full_answer(&t, &a);
+        h = fold(fold(h, a.refused.number), a.first);
+        h = fold(fold(h, without_sign(a.margins[0])), without_sign(a.margins[31]));
+    }
+    return h;
+}
+
+u64 plain_quick(const u32 *words, u64 count, u32 p, u32 q, u64 n) {
+    table t = table_of(words, count);
+    u64 h = 0;
+    for (u64 i = 0; i < n; i++) {
+        quick a;
+        t.partitions = i % 2 == 0 ? p : q;
+        quick_answer(&t, &a);
+        h = fold(fold(h, a.refused.number), a.first);
+    }
+    return h;
+}

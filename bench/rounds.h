@@ -1,0 +1,15 @@
+// What the archive of crates/bench exports, and the plain C version of each. A slice comes as a pointer and a length.
+#ifndef ROUNDS_H
+#define ROUNDS_H
+#include "plain.h"
+
+// A table from words: n, M, P, then D, T, C, A of each task.
+table table_of(const u32 *words, u64 count);
+
+// Rounds of the full and of the quick answer, on p and q partitions in turn.
+u64 bench_full(const u32 *words, u64 count, u32 p, u32 q, u64 n);
+u64 plain_full(const u32 *words, u64 count, u32 p, u32 q, u64 n);
+u64 bench_quick(const u32 *words, u64 count, u32 p, u32 q, u64 n);
+u64 plain_quick(const u32 *words, u64 count, u32 p, u32 q, u64 n);
+
+#endif

@@ -1,0 +1,36 @@
+-- Rounds of the full and of the quick answer. The table's partitions are p in even rounds and q in odd ones, so that no round's work is
+-- another's. Of a full answer's margins the first and the last are folded.
+use Prim.Native.Nat.{ℕ, _%_}
+use mathlib.Core.Bool.{cond}
+use mathlib.Core.List.{List}
+use lib.Dec.{eqb}
+use lib.IntN.{pos}
+use lib.ListN.{getD}
+use lib.Signed.{mag}
+use Rattle.table.specs.declared.Table.{Table}
+use Rattle.admission.specs.declared.FullAnswer.{FullAnswer}
+use Rattle.admission.specs.declared.QuickAnswer.{QuickAnswer}
+use Rattle.admission.specs.Answers.{fullAnswer, quickAnswer}
+use Rattle.bench.specs.Rounds.{folded, rounds}
+use Rattle.bench.specs.Tables.{tableOf}
+
+abbrev pub onPartitions : Table → ℕ → Table
+onPartitions t p = record { platform = record { cores = t .platform .cores; partitions = record { 0 = p } }; n = t .n; rows = t .rows }
+
+abbrev pub partitionsIn : ℕ → ℕ → ℕ → ℕ
+partitionsIn p q i = cond (eqb (i % 2) 0) p q
+
+abbrev pub marginOf : FullAnswer → ℕ → ℕ
+marginOf a i = mag (getD (a .margins) i (pos 0))
+
+abbrev pub fullFolded : FullAnswer → ℕ → ℕ
+fullFolded a h = folded (folded (folded (folded h (a .refused .number)) (a .first)) (marginOf a 0)) (marginOf a 31)
+
+abbrev pub quickFolded : QuickAnswer → ℕ → ℕ
+quickFolded a h = folded (folded h (a .refused .number)) (a .first)
+
+unfoldable pub fullRounds : List ℕ → ℕ → ℕ → ℕ → ℕ
+fullRounds ws p q n = rounds (λ i. fullFolded (fullAnswer (onPartitions (tableOf ws) (partitionsIn p q i)))) n
+
+unfoldable pub quickRounds : List ℕ → ℕ → ℕ → ℕ → ℕ
+quickRounds ws p q n = rounds (λ i. quickFolded (quickAnswer (onPartitions (tableOf ws) (partitionsIn p q i)))) n

@@ -1,0 +1,3 @@
+pub mod Rounds
+pub mod Tables
+pub mod Admission

@@ -1,0 +1,3 @@
+/* The kit's clang brings no header files: these three stand in for the compiler's own. */
+#pragma once
+#define bool _Bool

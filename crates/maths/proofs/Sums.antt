@@ -88,15 +88,7 @@ sum-grows f i (suc n) l =
 
 -- one value rises by c
 pub sum-rise : (f g : ℕ → ℕ) (n i c : ℕ) → i < n → ((j : ℕ) → j < n → (j ≡ i → ⊥) → g j ≡ f j) → g i ≡ f i + c → sum g n ≡ sum f n + c
-unfolding sum
-sum-rise f g zero i c l same e = absurd (omega arith)
-sum-rise f g (suc n) i c l same e =
-    elim (decLt i n) [
-      | yes h ↦ omega (arith, sum-rise f g n i c h (λ j k ne. same j (omega arith) ne) e, same n (omega arith) (omega arith))
-      | no h ↦
-          let z : i ≡ n = omega arith in
-          omega (arith, rw z at e, sum-ext g f n (λ j k. same j (omega arith) (omega arith)))
-    ]
+sum-rise f g n i c l same e = omega (arith, sum-but f g n i l same)
 
 pub Σ-zero : (f : ℕ → ℕ) → Σ 0 f ≡ 0
 Σ-zero f = sum-zero (λ i. f (suc i))

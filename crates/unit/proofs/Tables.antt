@@ -15,6 +15,8 @@ use Rattle.table.proofs.Refusal as N
 use Rattle.table.proofs.Refusal.Laws as N′
 use Rattle.machine.proofs.Machine as T
 use Rattle.machine.proofs.Machine.Laws as T′
+use Rattle.machine.proofs.Answer as A
+use Rattle.machine.proofs.Answer.Laws as A′
 use Rattle.unit.proofs.Data.{Data, row}
 
 abbrev pub platform : Data
@@ -31,6 +33,9 @@ refusal = record { type = N.the-type; laws = N′.the-laws; plain = N′.the-pla
 
 abbrev pub machine : Data
 machine = record { type = T.the-type; laws = T′.the-laws; plain = T′.the-plain }
+
+abbrev pub answer : Data
+answer = record { type = A.the-type; laws = A′.the-laws; plain = A′.the-plain }
 
 abbrev pub Rows : Type 0
 Rows = RefT (List Task)

@@ -3,10 +3,13 @@ ghost use mathlib.Core.Path.{_≡_};
 ghost use Prim.Native.Nat.{min};
 ghost use lib.ListN.{take};
 ghost use Rattle.machine.specs.Fresh.{setUp};
+ghost use Rattle.machine.specs.Tick.{tick};
 ghost use Rattle.unit.specs.Lent.{tableOf};
 use crate::set_up;
+use crate::tick;
 use machine::Machine;
 use machine::SetUp;
+use machine::Ticked;
 use table::Platform;
 use table::Task;
 
@@ -29,5 +32,16 @@ pub fn set_up_from(old: Machine, platform: Platform, rows: [Task; MOST], n: usiz
     SetUp {
         refused: refused,
         machine: lent,
+    }
+}
+
+pub fn ticked(m: Machine, released: u32, finished: u32) -> Ticked
+    ensures { λ r. ⌜ r ≡ tick m released finished ⌝ }
+{
+    let mut lent = m;
+    let answer = tick(&mut lent, released, finished);
+    Ticked {
+        machine: lent,
+        answer: answer,
     }
 }

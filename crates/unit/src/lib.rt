@@ -7,9 +7,11 @@ ghost use Prim.Native.Nat.{_<_, min};
 ghost use Rattle.table.specs.Limits.{mostTasks};
 ghost use Rattle.admission.specs.Answers.{fullAnswer, quickAnswer};
 ghost use Rattle.machine.specs.Fresh.{setUp};
+ghost use Rattle.machine.specs.Tick.{tick};
 ghost use Rattle.unit.specs.Lent.{tableOf, noRows, withRow};
 use admission::FullAnswer;
 use admission::QuickAnswer;
+use machine::Answer;
 use machine::Machine;
 use table::Platform;
 use table::Refusal;
@@ -79,4 +81,13 @@ pub fn set_up(m: &mut Machine, platform: Platform, rows: &[Task]) -> Refusal
     let s = Machine::set_up(*m, t);
     *m = s.machine;
     s.refused
+}
+
+// One tick of the machine, in its place.
+pub fn tick(m: &mut Machine, released: u32, finished: u32) -> Answer
+    ensures { λ r. ⌜ (r ≡ tick (now (m .entry)) released finished .answer) × (now (m .exit) ≡ tick (now (m .entry)) released finished .machine) ⌝ }
+{
+    let s = Machine::tick(*m, released, finished);
+    *m = s.machine;
+    s.answer
 }

@@ -2,7 +2,7 @@
 ghost use mathlib.Core.Path.{_≡_};
 ghost use Rattle.admission.specs.Answers.{fullAnswer, quickAnswer};
 ghost use Rattle.unit.specs.Lent.{tableOf};
-ghost use Rattle.unit.specs.Raw.{number, staged, jobOf, rawJobOf, noRawJob, ofRaw, toRaw, rawSetUp};
+ghost use Rattle.unit.specs.Raw.{number, staged, jobOf, rawJobOf, noRawJob, ofRaw, toRaw, rawSetUp, rawTick};
 use crate::table_of;
 use admission::FullAnswer;
 use admission::QuickAnswer;
@@ -155,6 +155,24 @@ impl RawMachine {
             machine: self,
         }
     }
+
+    fn tick(self, released: u32, finished: u32) -> RawTicked
+        ensures { λ r. ⌜ r ≡ rawTick self released finished ⌝ }
+    {
+        let r = self.machine().tick(released, finished);
+        let answer = r.answer;
+        if answer.refused.number == 0 {
+            let next = r.machine;
+            return RawTicked {
+                machine: RawMachine::of(next),
+                answer: answer,
+            };
+        }
+        RawTicked {
+            machine: self,
+            answer: answer,
+        }
+    }
 }
 
 #[no_mangle]
@@ -184,4 +202,14 @@ pub extern "C" fn gorsetumble_set_up(
     let s = RawMachine::set_up(*m, t);
     *m = s.machine;
     s.refused
+}
+
+#[no_mangle]
+pub extern "C" fn gorsetumble_tick(m: &mut RawMachine, released: u32, finished: u32) -> Answer
+    ensures { λ r. ⌜ (r ≡ rawTick (now (m .entry)) released finished .answer)
+        × (now (m .exit) ≡ rawTick (now (m .entry)) released finished .machine) ⌝ }
+{
+    let s = RawMachine::tick(*m, released, finished);
+    *m = s.machine;
+    s.answer
 }

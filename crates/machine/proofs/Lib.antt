@@ -16,3 +16,4 @@ pub mod TickReady
 pub mod TickWalk
 pub mod TickSteps
 pub mod TickCode
+pub mod TickLoops

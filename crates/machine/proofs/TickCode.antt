@@ -1,13 +1,11 @@
 -- What the three passes of the code come to is the tick, accepted or refused.
-use Prim.Native.Nat.{ℕ, suc, _+_, _<_, _≤_, min}
+use Prim.Native.Nat.{ℕ, _<_, _≤_, min}
 use mathlib.Core.Path.{_≡_, refl, sym, _∙_, ap}
 use mathlib.Core.Bool.{Bool, true, false, cond}
 use mathlib.Core.List.{List}
-use native.Mathlib.Numerals.{add-one}
 use native.Mathlib.Omega.{arith}
-use lib.Dec.{eqb}
-use lib.ListN.{length, getD, set}
-use Rattle.maths.proofs.Arrays.{upTo, up-none, up-more, up-past, tabulate-entry}
+use lib.ListN.{length}
+use Rattle.maths.proofs.Arrays.{upTo, up-none, tabulate-entry}
 use Rattle.table.specs.declared.Refusal.{Refusal}
 use Rattle.table.specs.declared.Table.{Table}
 use Rattle.table.specs.Limits.{mostTasks}
@@ -18,13 +16,14 @@ use Rattle.machine.specs.declared.Machine.{Machine}
 use Rattle.machine.specs.declared.Ticked.{Ticked}
 use Rattle.machine.specs.declared.Walk.{Walk}
 use Rattle.machine.specs.Jobs.{noJob, job}
+use Rattle.machine.specs.Conditions.{goodState}
 use Rattle.machine.specs.Steps.{passed, finish, lateSet}
-use Rattle.machine.specs.Passes.{walkStart, foundRefusal}
+use Rattle.machine.specs.Passes.{walkStart}
 use Rattle.machine.specs.Tick.{tickRefusal, readied, moved, startedSet, accepted, refusedAnswer, tick}
-use Rattle.machine.proofs.TickJudge.{zeroTo, found-looked, found-refusal, Accepts, accepts}
-use Rattle.machine.proofs.TickLook.{lookTo, look-small}
+use Rattle.machine.proofs.TickJudge.{Accepts, accepts}
+use Rattle.machine.proofs.TickLook.{lookTo, Looked}
 use Rattle.machine.proofs.TickSteps.{moved-is, started-so, late-so}
-use Rattle.machine.proofs.TickWalk.{walkTo, walk-none, walk-small}
+use Rattle.machine.proofs.TickWalk.{walkTo, walk-none}
 
 abbrev pub machineOf : Table → List Job → Machine
 machineOf t js = record { table = t; jobs = js }
@@ -61,11 +60,11 @@ module _ (m : Machine) (released finished : ℕ) where
             };
       }
 
-  module _ (past : ℕ) (rows : length (m .table .rows) ≡ mostTasks) (jobs : length (m .jobs) ≡ mostTasks) (zeros : eqb past 0 ≡ zeroTo m mostTasks) where
-    pub coded-is : (refused : Refusal) → refused ≡ foundRefusal seen past m released finished → coded refused (eqb (refused .number) 0) ≡ tick m released finished
+  module _ (rows : length (m .table .rows) ≡ mostTasks) where
+    pub coded-is : length (m .jobs) ≡ mostTasks → (goodState m ≡ true → Looked m released finished (m .table .n) seen)
+        → coded (tickRefusal m released finished) (accepted m released finished) ≡ tick m released finished
     unfolding tick
-    coded-is refused e =
-        rw (e ∙ found-refusal m released finished past rows zeros) (by (accepted m released finished) refl)
+    coded-is jobs looked = by (accepted m released finished) refl
       where
         by : (b : Bool) → accepted m released finished ≡ b
             → coded (tickRefusal m released finished) b
@@ -83,7 +82,7 @@ module _ (m : Machine) (released finished : ℕ) where
             (record { machine = m; answer = refusedAnswer (tickRefusal m released finished) })
         by true w =
             let a = accepts m released finished rows w in
-            let l = found-looked m released finished past rows zeros (a .test) in
+            let l = looked (a .test) in
             let all : entriesOf ≡ m .table .n = omega (arith, a .good .table .few) in
             let machine : record { table = m .table; jobs = jobsTo entriesOf } ≡ moved m released finished =
             ap (λ (k : ℕ). machineOf (m .table) (jobsTo k)) all ∙ sym (moved-is m released finished a seen l) in
@@ -112,27 +111,13 @@ module _ (m : Machine) (released finished : ℕ) where
             }
 
     -- a job moves only in an accepted tick, and only one of the table
-    pub moves : (refused : Refusal) → refused ≡ foundRefusal seen past m released finished → (i : ℕ) → i < cond (eqb (refused .number) 0) entriesOf 0
-        → Accepts m released finished × (i < m .table .n)
-    moves refused e i = by (eqb (refused .number) 0) refl
+    pub moves : (i : ℕ) → i < cond (accepted m released finished) entriesOf 0 → Accepts m released finished × (i < m .table .n)
+    moves i = by (accepted m released finished) refl
       where
-        by : (b : Bool) → eqb (refused .number) 0 ≡ b → i < cond b entriesOf 0 → Accepts m released finished × (i < m .table .n)
-        by true w l =
-            (accepts m released finished rows (ap (λ (r : Refusal). eqb (r .number) 0) (sym (e ∙ found-refusal m released finished past rows zeros)) ∙ w), omega arith)
+        by : (b : Bool) → accepted m released finished ≡ b → i < cond b entriesOf 0 → Accepts m released finished × (i < m .table .n)
+        by true w l = (accepts m released finished rows w, omega arith)
         by false w l = absurd (omega arith)
 
-  -- a turn of the second pass: the job that it finds, what it requires and what it stores
-  module _ (i : ℕ) (l : i < mostTasks) where
-    pub job-found : getD (jobsTo i) i noJob ≡ job m (suc i)
-    job-found = up-past mostTasks (λ k. turnsOf k .job) (job m) i i noJob (omega arith) l
-
-    pub jobs-more : set (jobsTo i) i (turnsOf (i + 1) .job) ≡ jobsTo (i + 1)
-    jobs-more = rw (add-one i) (rw (add-one i) at (up-more mostTasks (λ k. turnsOf k .job) (job m) i l))
-
-    pub running-small : turnsOf i .running < mostTasks + mostTasks
-    running-small = omega (arith, walk-small m released finished (walkStart (P (m .table)) seen) i, look-small m released finished entriesOf .1)
-
--- no more turns than there are tasks
-pub few-turns : (b : Bool) (n x : ℕ) → x ≡ cond b (min n mostTasks) 0 → x ≤ mostTasks
-few-turns true n x e = omega arith
-few-turns false n x e = omega arith
+  pub few-turns : (b : Bool) → cond b entriesOf 0 ≤ mostTasks
+  few-turns true = omega arith
+  few-turns false = omega arith

@@ -1,53 +1,37 @@
-use Prim.Native.Nat.{ℕ, suc, _+_, _-_, _<_, _≤_, min, zero-le}
-use mathlib.Core.Path.{_≡_, refl, sym, _∙_, ap}
-use mathlib.Core.Bool.{cond}
-use native.Mathlib.Nat.{le-antisymm}
-use native.Mathlib.Omega.{arith}
-use lib.Dec.{eqb}
+use Prim.Native.Nat.{_-_}
+use mathlib.Core.Path.{_≡_}
 use lib.ListN.{length}
 use Rattle.maths.proofs.Lists.{len-mapped}
-use Rattle.table.specs.declared.Refusal.{Refusal}
 use Rattle.table.specs.Limits.{mostTasks}
-use Rattle.table.specs.Tasks.{P}
-use Rattle.machine.specs.declared.Look.{Look}
-use Rattle.machine.specs.Passes.{foundRefusal, walkStart}
-use Rattle.machine.proofs.TickTurns.{good-ran, good-age}
-use Rattle.machine.proofs.TickLook.{lookTo, look-none, look-more, look-partitions, look-small}
-use Rattle.machine.proofs.TickJudge.{zeroTo, zero-none, zero-more, found-good, Accepts}
-use Rattle.machine.proofs.TickWalk.{walk-none, walk-more}
-use Rattle.machine.proofs.TickCode.{machineOf, entriesOf, turnsOf, jobsTo, jobs-none, jobs-more, job-found, running-small, moves, coded-is, seen, few-turns}
+use Rattle.machine.proofs.TickCode.{machineOf}
+use Rattle.machine.proofs.TickLoops.{Judging, judging-none, judging-turn, judging-more, Ending, ending-none, ending-more, ending-good, Moving, moving-none, moving-turn, moving-more, moving-ends}
 use borrow.Author.Needs.{needs}
 use Rattle.machine.proofs.Machine.tick.Statement.{statement}
 use Rattle.machine.proofs.Machine.tick.Tie as tie
 
 abbrev Inv-loop : tie.InvT-loop
-Inv-loop self released finished t jobs n look₀ k₀ look k = (k ≤ n) × (look ≡ lookTo self released finished k)
+Inv-loop self released finished t jobs n look₀ k₀ look k = Judging self released finished n k look
 
 abbrev μ-loop : tie.MeasureT-loop
 μ-loop self released finished t jobs n look₀ k₀ look k = n - k
 
 abbrev Inv-loop2 : tie.InvT-loop2
-Inv-loop2 self released finished t jobs n look k₀ past₀ k past = (n ≤ k) × (k ≤ mostTasks) × (eqb past 0 ≡ zeroTo self k)
+Inv-loop2 self released finished t jobs n look k₀ past₀ k past = Ending self released finished n k look past
 
 abbrev μ-loop2 : tie.MeasureT-loop2
 μ-loop2 self released finished t jobs n look k₀ past₀ k past = mostTasks - k
 
 abbrev Inv-loop3 : tie.InvT-loop3
-Inv-loop3 released finished t jobs₀ n k past refused moved walk₀ i₀ jobs walk i = (i ≤ moved) × (moved ≤ mostTasks) × (walk ≡ turnsOf (machineOf t jobs₀) released finished i) × (jobs ≡ jobsTo (machineOf t jobs₀) released finished i)
+Inv-loop3 released finished t jobs₀ n k past refused moved walk₀ i₀ jobs walk i = Moving (machineOf t jobs₀) released finished refused moved jobs walk i
 
 abbrev μ-loop3 : tie.MeasureT-loop3
 μ-loop3 released finished t jobs₀ n k past refused moved walk₀ i₀ jobs walk i = moved - i
 
--- the lengths of the arrays
 rows-32 : (c : tie.Start Inv-loop μ-loop Inv-loop2 μ-loop2 Inv-loop3 μ-loop3) → length (c .args .self .table .rows) ≡ mostTasks
 rows-32 c = search (len-mapped, needs)
 
 jobs-32 : (c : tie.Start Inv-loop μ-loop Inv-loop2 μ-loop2 Inv-loop3 μ-loop3) → length (c .args .self .jobs) ≡ mostTasks
 jobs-32 c = search (len-mapped, needs)
-
--- after the first two passes: how far they went and what they found
-abbrev start-of : tie.After-loop2 Inv-loop μ-loop Inv-loop2 μ-loop2 Inv-loop3 μ-loop3 → tie.Start Inv-loop μ-loop Inv-loop2 μ-loop2 Inv-loop3 μ-loop3
-start-of c = c .before .before .before .before .before .before .before .before
 
 entries-requires : tie.Need-entries-requires Inv-loop μ-loop Inv-loop2 μ-loop2 Inv-loop3 μ-loop3
 entries-requires c κs = search needs
@@ -56,33 +40,30 @@ start-requires : tie.Need-start-requires Inv-loop μ-loop Inv-loop2 μ-loop2 Inv
 start-requires c κs = search needs
 
 loop-holds : tie.Need-loop-holds Inv-loop μ-loop Inv-loop2 μ-loop2 Inv-loop3 μ-loop3
-loop-holds c = (search needs, c .start .ensures ∙ look-none _ _ _)
+loop-holds c = judging-none _ _ _ _ _ (c .before .entries .ensures) (c .start .ensures)
 
 add-with : tie.Need-add-with Inv-loop μ-loop Inv-loop2 μ-loop2 Inv-loop3 μ-loop3
-add-with c = omega (arith, c .before .before .before .entries .ensures)
+add-with c = search needs
 
 mul-with : tie.Need-mul-with Inv-loop μ-loop Inv-loop2 μ-loop2 Inv-loop3 μ-loop3
-mul-with c = omega (arith, c .before .before .before .before .entries .ensures)
+mul-with c = search needs
 
 element-copy-out-with : tie.Need-element-copy-out-with Inv-loop μ-loop Inv-loop2 μ-loop2 Inv-loop3 μ-loop3
-element-copy-out-with c = omega (arith, c .before .before .before .before .entries .ensures)
+element-copy-out-with c = search needs
 
 mul-with-2 : tie.Need-mul-with-2 Inv-loop μ-loop Inv-loop2 μ-loop2 Inv-loop3 μ-loop3
-mul-with-2 c = omega (arith, c .before .before .before .before .before .entries .ensures)
+mul-with-2 c = search needs
 
 array-copy-out-with : tie.Need-array-copy-out-with Inv-loop μ-loop Inv-loop2 μ-loop2 Inv-loop3 μ-loop3
-array-copy-out-with c = omega (arith, c .before .before .before .before .before .entries .ensures)
+array-copy-out-with c = search needs
 
 with-requires : tie.Need-with-requires Inv-loop μ-loop Inv-loop2 μ-loop2 Inv-loop3 μ-loop3
 with-requires c κs =
     let l = c .before .before .before .before in
-    let s = l .before .before .before .before .before in
-    let small = look-small (s .args .self) (s .args .released) (s .args .finished) (l .loop .k) in
-    rw (l .loop .inv .1)
-    (look-partitions (s .args .self) (s .args .released) (s .args .finished) (l .loop .k), omega (arith, l .before .before .entries .ensures), omega (arith, l .before .before .entries .ensures))
+    judging-turn _ _ _ _ _ _ (l .loop .inv) (search needs)
 
 add-k : tie.Need-add-k Inv-loop μ-loop Inv-loop2 μ-loop2 Inv-loop3 μ-loop3
-add-k c = omega (arith, c .before .before .before .before .before .before .before .entries .ensures)
+add-k c = search needs
 
 loop-less : tie.Need-loop-less Inv-loop μ-loop Inv-loop2 μ-loop2 Inv-loop3 μ-loop3
 loop-less c = search needs
@@ -90,13 +71,10 @@ loop-less c = search needs
 loop-again : tie.Need-loop-again Inv-loop μ-loop Inv-loop2 μ-loop2 Inv-loop3 μ-loop3
 loop-again c =
     let l = c .before .before .before .before .before in
-    (search needs, c .with .ensures ∙ rw (l .loop .inv .1) (look-more _ _ _ (l .loop .k)))
+    judging-more _ _ _ _ _ _ (l .loop .inv) (c .with .result) (search needs) (c .with .ensures)
 
 loop2-holds : tie.Need-loop2-holds Inv-loop μ-loop Inv-loop2 μ-loop2 Inv-loop3 μ-loop3
-loop2-holds c =
-    let l = c .before in
-    let n = l .before .before .entries .ensures in
-    (omega arith, omega (arith, n), zero-none (l .before .before .before .before .before .args .self) (l .loop .k) (omega (arith, n)))
+loop2-holds c = ending-none _ _ _ _ _ _ (c .before .loop .inv) (search needs)
 
 mul-marks : tie.Need-mul-marks Inv-loop μ-loop Inv-loop2 μ-loop2 Inv-loop3 μ-loop3
 mul-marks c = search needs
@@ -122,27 +100,12 @@ loop2-less c = search needs
 loop2-again : tie.Need-loop2-again Inv-loop μ-loop Inv-loop2 μ-loop2 Inv-loop3 μ-loop3
 loop2-again c =
     let l = c .before .before .before .before in
-    let e = l .before .before .before .before in
-    let m = e .before .before .before .args .self in
-    (omega arith, omega arith, zero-more m (l .loop2 .k) (l .loop2 .past) (c .marks .result) (omega (arith, e .entries .ensures)) (l .loop2 .inv .2) (c .marks .ensures))
-
-zeros : (c : tie.After-loop2 Inv-loop μ-loop Inv-loop2 μ-loop2 Inv-loop3 μ-loop3) → eqb (c .before .loop2 .past) 0 ≡ zeroTo (start-of c .args .self) mostTasks
-zeros c =
-    let all : c .before .loop2 .k ≡ mostTasks = omega arith in
-    rw all at (c .before .loop2 .inv .2)
-
-found : (c : tie.After-loop2 Inv-loop μ-loop Inv-loop2 μ-loop2 Inv-loop3 μ-loop3)
-    → c .before .before .before .loop .look
-    ≡ seen (start-of c .args .self) (start-of c .args .released) (start-of c .args .finished)
-found c =
-    let l = c .before .before .before in
-    let all : l .loop .k ≡ min (l .before .before .before .before .before .args .self .table .n) mostTasks = omega (arith, l .before .before .entries .ensures) in
-    rw all at (l .loop .inv .1)
+    ending-more _ _ _ _ _ _ _ (c .marks .result) (l .loop2 .inv) (search needs) (c .marks .ensures)
 
 refusal-of-requires : tie.Need-refusal-of-requires Inv-loop μ-loop Inv-loop2 μ-loop2 Inv-loop3 μ-loop3
 refusal-of-requires c κs =
-    let s = start-of c in
-    λ e. sym (found-good (s .args .self) (s .args .released) (s .args .finished) (c .before .loop2 .past) (rows-32 s) (zeros c)) ∙ (rw (found c) at e)
+    let e = c .before in
+    ending-good _ _ _ (rows-32 (e .before .before .before .before .before .before .before)) _ _ _ _ (e .loop2 .inv) (search needs)
 
 accepted-tasks-requires : tie.Need-accepted-tasks-requires Inv-loop μ-loop Inv-loop2 μ-loop2 Inv-loop3 μ-loop3
 accepted-tasks-requires c κs = search needs
@@ -150,35 +113,11 @@ accepted-tasks-requires c κs = search needs
 start-requires-2 : tie.Need-start-requires-2 Inv-loop μ-loop Inv-loop2 μ-loop2 Inv-loop3 μ-loop3
 start-requires-2 c κs = search needs
 
-refused-is : (c : tie.After-refusal-of Inv-loop μ-loop Inv-loop2 μ-loop2 Inv-loop3 μ-loop3)
-    → c .refusal-of .result
-    ≡ foundRefusal (seen (start-of (c .before) .args .self) (start-of (c .before) .args .released) (start-of (c .before) .args .finished)) (c .before .before .loop2 .past) (start-of (c .before) .args .self) (start-of (c .before) .args .released) (start-of (c .before) .args .finished)
-refused-is c =
-    let s = start-of (c .before) in
-    c .refusal-of .ensures ∙ ap (λ (l : Look). foundRefusal l (c .before .before .loop2 .past) (s .args .self) (s .args .released) (s .args .finished)) (found (c .before))
-
-turns-are : (c : tie.After-accepted-tasks Inv-loop μ-loop Inv-loop2 μ-loop2 Inv-loop3 μ-loop3)
-    → c .accepted-tasks .result ≡ cond (eqb (c .before .refusal-of .result .number) 0) (entriesOf (start-of (c .before .before) .args .self) (start-of (c .before .before) .args .released) (start-of (c .before .before) .args .finished)) 0
-turns-are c =
-    c .accepted-tasks .ensures
-    ∙ ap (λ (n : ℕ). cond (eqb (c .before .refusal-of .result .number) 0) n 0) (c .before .before .before .before .before .before .before .entries .ensures)
-
-may-move : (c : tie.After-accepted-tasks Inv-loop μ-loop Inv-loop2 μ-loop2 Inv-loop3 μ-loop3) (i : ℕ) → i < c .accepted-tasks .result
-    → Accepts (start-of (c .before .before) .args .self) (start-of (c .before .before) .args .released) (start-of (c .before .before) .args .finished) × (i < start-of (c .before .before) .args .self .table .n)
-may-move c i l =
-    let s = start-of (c .before .before) in
-    moves (s .args .self) (s .args .released) (s .args .finished) (c .before .before .before .loop2 .past) (rows-32 s) (jobs-32 s) (zeros (c .before .before)) (c .before .refusal-of .result) (refused-is (c .before)) i
-    (rw (turns-are c) at l)
-
 loop3-holds : tie.Need-loop3-holds Inv-loop μ-loop Inv-loop2 μ-loop2 Inv-loop3 μ-loop3
 loop3-holds c =
-    let r = c .before .before .before in
-    let s = start-of (r .before) in (
-      zero-le,
-      few-turns (eqb (r .refusal-of .result .number) 0) (s .args .self .table .n) _ (turns-are (c .before .before)),
-      c .start2 .ensures ∙ (ap (walkStart (P (s .args .self .table))) (found (r .before)) ∙ walk-none (s .args .self) (s .args .released) (s .args .finished) _),
-      jobs-none (s .args .self) (s .args .released) (s .args .finished) (jobs-32 s),
-    )
+    let e = c .before .before .before .before in
+    let s = e .before .before .before .before .before .before .before .before in
+    moving-none _ _ _ (rows-32 s) _ _ _ _ (e .before .loop2 .inv) (search needs) (jobs-32 s) _ _ _ (c .before .before .before .refusal-of .ensures) (c .before .before .accepted-tasks .ensures) (c .start2 .ensures)
 
 add-with-2 : tie.Need-add-with-2 Inv-loop μ-loop Inv-loop2 μ-loop2 Inv-loop3 μ-loop3
 add-with-2 c = search needs
@@ -196,15 +135,7 @@ array-copy-out-with-2 : tie.Need-array-copy-out-with-2 Inv-loop μ-loop Inv-loop
 array-copy-out-with-2 c = search needs
 
 with-requires-2 : tie.Need-with-requires-2 Inv-loop μ-loop Inv-loop2 μ-loop2 Inv-loop3 μ-loop3
-with-requires-2 c κs =
-    let l = c .before .before .before .before in
-    let i = l .loop3 .i in
-    let s = start-of (l .before .before .before .before .before) in
-    let m = s .args .self in
-    let a = may-move (l .before .before .before) i (omega arith) in
-    let in-32 : i < mostTasks = omega arith in
-    rw (l .loop3 .inv .2, l .loop3 .inv .3, job-found m (s .args .released) (s .args .finished) i in-32)
-    (running-small m (s .args .released) (s .args .finished) i in-32, good-ran (a .0 .good) i (a .1), good-age (a .0 .good) i (a .1))
+with-requires-2 c κs = moving-turn _ _ _ _ _ _ _ _ (c .before .before .before .before .loop3 .inv) (search needs)
 
 mul-jobs : tie.Need-mul-jobs Inv-loop μ-loop Inv-loop2 μ-loop2 Inv-loop3 μ-loop3
 mul-jobs c = search needs
@@ -219,29 +150,13 @@ loop3-less : tie.Need-loop3-less Inv-loop μ-loop Inv-loop2 μ-loop2 Inv-loop3 �
 loop3-less c = search needs
 
 loop3-again : tie.Need-loop3-again Inv-loop μ-loop Inv-loop2 μ-loop2 Inv-loop3 μ-loop3
-loop3-again c =
-    let l = c .before .before .before .before .before .before in
-    let i = l .loop3 .i in
-    let s = start-of (l .before .before .before .before .before) in
-    let m = s .args .self in
-    let in-32 : i < mostTasks = omega arith in
-    let next : c .before .with2 .result ≡ turnsOf m (s .args .released) (s .args .finished) (i + 1) =
-    c .before .with2 .ensures ∙ rw (l .loop3 .inv .2, l .loop3 .inv .3, job-found m (s .args .released) (s .args .finished) i in-32) (walk-more m (s .args .released) (s .args .finished) _ i) in
-    (omega arith, l .loop3 .inv .1, next, rw (next, l .loop3 .inv .3) (jobs-more m (s .args .released) (s .args .finished) i in-32))
+loop3-again c = moving-more _ _ _ _ _ _ _ _ (c .before .before .before .before .before .before .loop3 .inv) (search needs) (c .before .with2 .result) (c .before .with2 .ensures)
 
 accepted-set-requires : tie.Need-accepted-set-requires Inv-loop μ-loop Inv-loop2 μ-loop2 Inv-loop3 μ-loop3
 accepted-set-requires c κs = search needs
 
 returns : tie.Need-returns Inv-loop μ-loop Inv-loop2 μ-loop2 Inv-loop3 μ-loop3
-returns c =
-    let l = c .before .before in
-    let t = l .before .before .before in
-    let r = t .before in
-    let s = start-of (r .before) in
-    let all : l .loop3 .i ≡ cond (eqb (r .refusal-of .result .number) 0) (entriesOf (s .args .self) (s .args .released) (s .args .finished)) 0 =
-    le-antisymm (l .loop3 .inv .0) (omega arith) ∙ turns-are t in
-    rw (l .loop3 .inv .3, l .loop3 .inv .2, all, c .accepted-set .ensures)
-    (coded-is (s .args .self) (s .args .released) (s .args .finished) (r .before .before .loop2 .past) (rows-32 s) (jobs-32 s) (zeros (r .before)) (r .refusal-of .result) (refused-is r))
+returns c = moving-ends _ _ _ _ _ _ _ _ (c .before .before .loop3 .inv) (search needs) (c .accepted-set .result) (c .accepted-set .ensures)
 
 pub tick-spec : {M : Type 1} → statement M
 tick-spec =

@@ -19,6 +19,7 @@ use Rattle.machine.specs.declared.Ticked.{Ticked}
 use Rattle.machine.specs.Jobs.{job}
 use Rattle.machine.specs.Fresh.{fresh}
 use Rattle.machine.specs.Tick.{tick}
+use Rattle.promise.specs.Sequences.{Report}
 
 abbrev pub row : ℕ → ℕ → ℕ → ℕ → Task
 row d t c a = record { d = d; t = t; c = c; a = record { 0 = a } }
@@ -36,11 +37,6 @@ table m p τs =
       n = length τs;
       rows = padded mostTasks τs;
     }
-
--- the sets that a tick brings
-pub record Report : Type 0 where
-  pub released : ℕ
-  pub finished : ℕ
 
 abbrev pub report : ℕ → ℕ → Report
 report released finished = record { released = released; finished = finished }

@@ -19,7 +19,7 @@ use Rattle.table.specs.Tasks.{M, P, τ}
 use Rattle.sets.specs.Families.{unionOf, Apart, allApart}
 use Rattle.sets.proofs.Unions.{union-none, union-more, apart-none, apart-more, apart-less, apart-last, all-apart, apart-all}
 use Rattle.machine.specs.declared.Machine.{Machine}
-use Rattle.machine.specs.Jobs.{job, runs, running, busy}
+use Rattle.machine.specs.Jobs.{job, runs, running}
 use Rattle.machine.specs.Conditions.{isNoTask, isNoJob, goodJob}
 use Rattle.machine.proofs.StateTest.{past-test}
 
@@ -61,10 +61,6 @@ module _ (m : Machine) where
 
   pub held-more : (i : ℕ) → heldTo m (i + 1) ≡ bitOr (heldTo m i) (job m (suc i) .held)
   held-more i = rw add-one (union-more (λ i. job m (suc i) .held) i)
-
-  pub held-all : heldTo m (m .table .n) ≡ busy m
-  unfolding busy
-  held-all = refl
 
   -- the pass over tasks 1 to n: each of the first i is good, and no partition has two holders among them
   pub record Passed (i held count : ℕ) : Type 0 where

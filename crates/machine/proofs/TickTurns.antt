@@ -87,18 +87,11 @@ ran-of τ j r Idle g = omega arith
 ran-of τ j r Waiting g = omega arith
 ran-of τ j r Running g = omega arith
 
-module _ (p : ℕ) (τ : Task) (j : Job) (row : rowRefusal p τ ≡ 0) (good : goodJob p τ j ≡ true) where
-  pub ran-small : j .ran ≤ longestPeriod
-  ran-small = ran-of τ j (good-row p τ row) (j .stage) (job-good p τ j good .stage)
-
-  pub age-small : j .age ≤ longestPeriod
-  age-small = let g = job-good p τ j good in let r = good-row p τ row in omega arith
-
 pub admitted-ran : (p : ℕ) (τ : Task) (j : Job) (l : Look) → admits p τ j l ≡ true → j .ran ≤ longestPeriod
 admitted-ran p τ j l e =
     let all = both (l .good && eqb (rowRefusal p τ) 0 && goodJob p τ j) _ e in
     let good = both (l .good && eqb (rowRefusal p τ) 0) _ (all .0) in
-    ran-small p τ j (eqb-true _ _ (both (l .good) _ (good .0) .1)) (good .1)
+    ran-of τ j (good-row p τ (eqb-true _ _ (both (l .good) _ (good .0) .1))) (j .stage) (job-good p τ j (good .1) .stage)
 
 module _ {m : Machine} (g : GoodState m) (i : ℕ) (l : i < m .table .n) where
   pub good-ran : job m (suc i) .ran ≤ longestPeriod

@@ -8,7 +8,7 @@ ghost use Rattle.table.specs.Limits.{mostTasks, mostPartitions};
 ghost use Rattle.table.specs.Tasks.{M, P, τ, C};
 ghost use Rattle.table.specs.Good.{Good};
 ghost use Rattle.sets.specs.Families.{allApart};
-ghost use Rattle.machine.specs.Jobs.{isIdle, isWaiting, isRunning, noJob, job, running, busy};
+ghost use Rattle.machine.specs.Jobs.{isIdle, isWaiting, isRunning, noJob, job, running};
 ghost use Rattle.machine.specs.Fresh.{trimmed, fresh, setUp};
 ghost use Rattle.machine.specs.Conditions.{isNoTask, isNoJob, hasNothing, goodStage, goodJob, goodState};
 use crate::Job;
@@ -310,39 +310,4 @@ impl Machine {
         }
         self.jobs_are_good()
     }
-}
-
-// How many jobs run.
-pub(crate) fn count_running(m: Machine) -> u32
-    requires { ⌜ m .table .n ≤ mostTasks ⌝ }
-    ensures { λ r. ⌜ r ≡ running m ⌝ }
-{
-    let t = m.table;
-    let n = t.n;
-    let mut count: u32 = 0;
-    let mut i: usize = 0;
-    while i < n {
-        let j = m.jobs[i];
-        let s = j.stage;
-        count += s.runs();
-        i += 1;
-    }
-    count
-}
-
-// The partitions that some job holds.
-pub(crate) fn union_held(m: Machine) -> u64
-    requires { ⌜ m .table .n ≤ mostTasks ⌝ }
-    ensures { λ r. ⌜ r ≡ busy m ⌝ }
-{
-    let t = m.table;
-    let n = t.n;
-    let mut held: u64 = 0;
-    let mut i: usize = 0;
-    while i < n {
-        let j = m.jobs[i];
-        held = held | j.held;
-        i += 1;
-    }
-    held
 }

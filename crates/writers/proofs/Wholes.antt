@@ -5,9 +5,10 @@ use mathlib.Core.Bool.{Bool, true, false, _&&_}
 use mathlib.Core.Logic.{_⊎_, inl, inr}
 use mathlib.Core.List.{List, [], _∷_, _++_, append-assoc, append-nil}
 use native.Mathlib.Omega.{arith}
+use native.Mathlib.Decide.{decLe}
 use borrow.Author.Tests.{le-leb, lt-leb}
 use lib.Dec.{leb}
-use lib.ListN.{length, drop}
+use lib.ListN.{length, drop, length-append}
 use Prim.Native.String.{String}
 use Rattle.forms.specs.Bytes.{bytes}
 use Rattle.forms.specs.Forms.{Form, crlf, line, lines, text}
@@ -102,3 +103,17 @@ module _ (a b first second : List ℕ) where
         holds₁ = rw (yes₁, yes₂) (wrote-holds a first after₁ w₁ g l);
         holds₂ = rw (yes₁, yes₂) (wrote-holds b second after₂ w₂ h m);
       }
+
+-- what is answered lies within the buffer
+pub wrote-inside : (text buffer after : List ℕ) (w : Written) → Wrote text buffer w after → w .length ≤ length after
+unfolding written leaves
+wrote-inside text buffer after w h = go (decLe (length text) (length buffer))
+  where
+    go : Dec (length text ≤ length buffer) → w .length ≤ length after
+    go (yes l) =
+        let size = wrote-length text buffer after w h l in
+        let all = ap length (wrote-holds text buffer after w h l) in
+        omega (arith, length-append text (drop (length text) buffer))
+    go (no g) =
+        let none : w .length ≡ 0 = ap (λ (x : Written). x .length) (h .answers) ∙ rw (lt-leb (length text) (length buffer) (omega arith)) in
+        omega arith

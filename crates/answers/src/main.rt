@@ -1,16 +1,7 @@
 // Reads cases from standard input, one after the other, and writes the proved functions' answers to them: the proved side of the
 // comparison with the second program. oracle/src/records.rs states the form of both; after a kind that is not known nothing is read.
-use input::Room;
+use answers_wire::Room;
 use machine::Machine;
-
-mod admits;
-mod bytes;
-mod digests;
-mod input;
-mod moves;
-mod reads;
-mod tables;
-mod writes;
 
 struct Step {
     more: bool,
@@ -20,11 +11,11 @@ struct Step {
 // Answers one case of those that leave the machine alone, and says whether it was one.
 fn answer_apart(kind: u8, room: &mut Room) -> bool {
     match kind {
-        b'A' => admits::answer(),
-        b'P' => reads::platform(room),
-        b'K' => reads::tasks(room),
-        b'R' => reads::ticks(room),
-        b'V' => writes::texts(),
+        b'A' => answers_tables::admission(),
+        b'P' => answers_texts::platform(room),
+        b'K' => answers_texts::tasks(room),
+        b'R' => answers_texts::ticks(room),
+        b'V' => answers_texts::texts(),
         _ => return false,
     }
     true
@@ -32,9 +23,11 @@ fn answer_apart(kind: u8, room: &mut Room) -> bool {
 
 // Answers one case, and says whether there may be another.
 fn answer_one(kept: Machine, room: &mut Room) -> Step {
-    let kind = bytes::kind();
+    let kind = answers_wire::kind();
     let after = match kind {
-        b'S' => moves::set_up(kept),
+        b'S' => answers_tables::set_up(kept),
+        b'T' => answers_tables::tick(kept),
+        b'X' => answers_tables::given(),
         _ => {
             return Step {
                 more: answer_apart(kind, room),
@@ -52,7 +45,7 @@ fn answer_one(kept: Machine, room: &mut Room) -> Step {
 fn main() {
     let mut step = Step {
         more: true,
-        kept: moves::nothing(),
+        kept: answers_tables::nothing(),
     };
     let mut room = [0u8; 65536];
     let mut turns = u64::MAX;

@@ -1,0 +1,8 @@
+// The proved answers on texts, case by case (oracle/src/records.rs, kinds P, K, R and V).
+mod reads;
+mod writes;
+
+pub use reads::platform;
+pub use reads::tasks;
+pub use reads::ticks;
+pub use writes::texts;

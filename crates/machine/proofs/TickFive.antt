@@ -1,24 +1,20 @@
 -- Step 5 by one pass over the tasks from the lowest: each turn is a start, or nothing, or the end of the step.
-use Prim.Native.Nat.{ℕ, zero, suc, _+_, _-_, _<_, _≤_, zero-le}
+use Prim.Native.Nat.{ℕ, suc, _+_, _<_, _≤_}
 use mathlib.Core.Path.{_≡_, refl, sym, _∙_, ap}
-use mathlib.Core.Bool.{Bool, true, false, cond, _&&_, true≢false}
+use mathlib.Core.Bool.{true, false, cond, _&&_, true≢false}
 use mathlib.Core.List.{List}
 use mathlib.Core.Logic.{_≢_}
-use native.Mathlib.Nat.{not-suc-le-zero}
 use native.Mathlib.Numerals.{add-one}
 use native.Mathlib.Omega.{arith}
 use borrow.Author.Count.{below-more}
 use lib.Bits.{bitOr}
 use lib.ListN.{length, getD, set}
 use lib.Seq.{set-getD, getD-set-other}
-use Rattle.maths.specs.Tasks.{lowest, tabulate}
 use Rattle.maths.proofs.Arrays.{upTo, up-none, up-more, up-in, up-past, tabulate-entry}
 use Rattle.maths.proofs.Sums.{sum-rise}
-use Rattle.maths.proofs.Tasks.{lowest-empty, lowest-found, lowest-stays}
 use Rattle.table.specs.Limits.{mostTasks}
-use Rattle.table.specs.Tasks.{M, P, τ, A}
+use Rattle.table.specs.Tasks.{P, τ, A}
 use Rattle.sets.specs.Sets.{below, without}
-use Rattle.sets.specs.TaskSets.{taskBit, tasksWhere}
 use Rattle.sets.specs.Choice.{choice}
 use Rattle.sets.proofs.Holders.{union-take}
 use Rattle.sets.proofs.Same.{without-both}
@@ -28,12 +24,30 @@ use Rattle.machine.specs.declared.Job.{Job}
 use Rattle.machine.specs.declared.Machine.{Machine}
 use Rattle.machine.specs.declared.Walk.{Walk}
 use Rattle.machine.specs.Jobs.{isWaiting, isRunning, noJob, job, waits, runs, running, busy, idlePartitions}
-use Rattle.machine.specs.Steps.{firstWaiting, fits, begun, start, startWaiting}
+use Rattle.machine.specs.Steps.{firstWaiting, begun, start, startFirst, startWaiting}
 
 waits-not-runs : (s : Stage) → isWaiting s ≡ true → isRunning s ≡ false
 waits-not-runs Idle e = refl
 waits-not-runs Waiting e = refl
 waits-not-runs Running e = absurd (true≢false (sym e))
+
+pub not-both : (s : Stage) → isWaiting s && isRunning s ≡ false
+not-both Idle = refl
+not-both Waiting = refl
+not-both Running = refl
+
+-- what holds below i, and of i
+pub below-suc : (Q : ℕ → Type 0) (i : ℕ) → ((j : ℕ) → j < i → Q j) → Q i → (j : ℕ) → j < suc i → Q j
+below-suc Q i h q = rw (← add-one i) (below-more Q i h q)
+
+-- a turn of the definition
+pub start-none : (m : Machine) → startWaiting 0 m ≡ m
+unfolding startWaiting
+start-none m = refl
+
+pub start-turn : (turns : ℕ) (m : Machine) → startWaiting (suc turns) m ≡ startFirst (startWaiting turns) m (firstWaiting m)
+unfolding startWaiting
+start-turn turns m = refl
 
 -- tasks 1 to i have the jobs that the pass gave them, the others still theirs
 abbrev pub walked : Machine → (ℕ → Walk) → ℕ → Machine

@@ -1,19 +1,18 @@
 -- What the first pass and the pass over the entries past n come to: the refusal of the tick; and what an accepted tick is for each task.
-use Prim.Native.Nat.{ℕ, zero, suc, _+_, _^_, _<_, _≤_, min}
+use Prim.Native.Nat.{ℕ, suc, _+_, _^_, _≤_, min}
 use mathlib.Core.Path.{_≡_, refl, sym, _∙_, ap}
-use mathlib.Core.Bool.{Bool, true, false, cond, not, _&&_, _||_, true≢false}
+use mathlib.Core.Bool.{Bool, true, false, cond, _&&_, _||_}
 use native.Mathlib.Numerals.{add-one}
 use native.Mathlib.Omega.{arith}
-use borrow.Author.Tests.{le-leb, lt-leb, leb-true, eq-eqb, eqb-true, le-ltb, ltb-true}
+use borrow.Author.Tests.{le-leb, lt-leb, eq-eqb, eqb-true, ltb-true}
 use lib.Bits.{bitOr}
 use lib.Dec.{ltb, leb, eqb}
 use lib.ListN.{length}
 use Rattle.maths.specs.Tasks.{every}
 use Rattle.maths.proofs.Tasks.{every-holds, every-of}
 use Rattle.maths.proofs.Tests.{both, same-truth}
-use Rattle.table.specs.declared.Refusal.{Refusal}
 use Rattle.table.specs.Limits.{mostTasks}
-use Rattle.table.specs.Tasks.{M, P, τ}
+use Rattle.table.specs.Tasks.{M}
 use Rattle.table.specs.Refused.{refusal}
 use Rattle.table.proofs.Good.{good-sizes, sizes-accepted, row-accepted}
 use Rattle.table.proofs.Good as good
@@ -26,7 +25,7 @@ use Rattle.machine.specs.Conditions.{goodState}
 use Rattle.machine.specs.Passes.{refuses, foundGood, foundRefusal}
 use Rattle.machine.specs.Tick.{tickRules, firstGiven, tickRefusal, accepted}
 use Rattle.machine.proofs.StateParts.{GoodState}
-use Rattle.machine.proofs.StateTest.{state-good, state-test, job-test, past-test}
+use Rattle.machine.proofs.StateTest.{state-good, job-test}
 use Rattle.machine.proofs.StateLoops.{goodTask, zeroEntry, running-all}
 use Rattle.machine.proofs.TickTurns.{or-none}
 use Rattle.machine.proofs.TickAllowed.{allowed-of, AllAllowed, none-first, first-none}

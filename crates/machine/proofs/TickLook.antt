@@ -1,41 +1,32 @@
 -- The first pass over the tasks: that it finds good exactly the good states, that where it finds nothing given no refusal is, and what
 -- it counts for step 5.
 use Prim.Native.Nat.{ℕ, zero, suc, _+_, _^_, _<_, _≤_, zero-le}
-use mathlib.Core.Path.{_≡_, refl, sym, _∙_, ap}
+use mathlib.Core.Path.{_≡_, refl, sym, _∙_}
 use mathlib.Core.Bool.{Bool, true, false, cond, not, _&&_, true≢false, and-true, and-assoc}
-use native.Mathlib.Nat.{not-suc-le-zero, le-of-suc-le-suc}
+use native.Mathlib.Nat.{not-suc-le-zero}
 use native.Mathlib.Numerals.{add-one}
 use native.Mathlib.Omega.{arith}
 use borrow.Author.Count.{below-more}
 use borrow.Author.Tests.{eq-eqb, eqb-true}
-use lib.Bits.{bitAnd, bitOr, or-zero-r}
+use lib.Bits.{bitAnd, bitOr}
 use lib.Dec.{ltb, eqb}
 use Rattle.maths.specs.Sums.{Σ}
 use Rattle.maths.specs.Tasks.{every}
 use Rattle.maths.proofs.Sums.{Σ-zero, Σ-suc}
 use Rattle.maths.proofs.Tests.{both}
-use Rattle.table.specs.Limits.{mostTasks, mostPartitions}
-use Rattle.table.specs.Tasks.{M, P, τ}
+use Rattle.table.specs.Limits.{mostPartitions}
+use Rattle.table.specs.Tasks.{P, τ}
 use Rattle.table.specs.Refused.{sizesRefusal, rowRefusal}
 use Rattle.table.proofs.Good.{good-sizes}
-use Rattle.sets.specs.Sets.{disjoint}
 use Rattle.sets.specs.Families.{unionOf, Apart}
 use Rattle.sets.specs.TaskSets.{hasTask}
-use Rattle.sets.proofs.Unions.{union-none, union-more, apart-none, apart-more, apart-less, apart-last}
+use Rattle.sets.proofs.Unions.{union-none, union-more, apart-less, apart-last}
 use Rattle.machine.specs.declared.Look.{Look}
 use Rattle.machine.specs.declared.Machine.{Machine}
-use Rattle.machine.specs.Jobs.{isRunning, job, runs}
+use Rattle.machine.specs.Jobs.{job, runs}
 use Rattle.machine.specs.Passes.{givenOne, lookStart, lookBad, admits, lookMore, lookWith}
-use Rattle.machine.proofs.StateLoops.{runningTo, heldTo, goodTask, Passed, passed-none, passed-more}
-use Rattle.machine.proofs.TickTurns.{one-le}
-
-add-kept : (f : Bool) (x y : ℕ) → cond f x (x + y) ≡ x + cond f 0 y
-add-kept true x y = omega arith
-add-kept false x y = refl
-
-or-kept : (f : Bool) (x y : ℕ) → cond f x (bitOr x y) ≡ bitOr x (cond f 0 y)
-or-kept true x y = sym (or-zero-r x)
-or-kept false x y = refl
+use Rattle.machine.proofs.StateLoops.{goodTask, Passed, passed-none, passed-more}
+use Rattle.machine.proofs.TickTurns.{one-le, add-kept, or-kept}
 
 module _ (m : Machine) (released finished : ℕ) where
   -- after i turns

@@ -1,7 +1,7 @@
 -- What the three loops of a tick know, each as a record, with a law for its start, its turn and its end.
 use Prim.Native.Nat.{ℕ, suc, _+_, _<_, _≤_, zero-le}
-use mathlib.Core.Path.{_≡_, refl, sym, _∙_, ap}
-use mathlib.Core.Bool.{Bool, true, cond}
+use mathlib.Core.Path.{_≡_, sym, _∙_, ap}
+use mathlib.Core.Bool.{true, cond}
 use mathlib.Core.List.{List}
 use native.Mathlib.Nat.{le-antisymm}
 use native.Mathlib.Numerals.{add-one}
@@ -26,7 +26,7 @@ use Rattle.machine.proofs.TickTurns.{good-ran, good-age}
 use Rattle.machine.proofs.TickLook.{lookTo, look-none, look-more, look-partitions, look-small, Looked}
 use Rattle.machine.proofs.TickJudge.{zeroTo, zero-none, zero-more, found-good, found-looked, found-refusal}
 use Rattle.machine.proofs.TickWalk.{walk-none, walk-more, walk-small}
-use Rattle.machine.proofs.TickCode.{entriesOf, seen, turnsOf, jobsTo, jobs-none, coded, coded-is, moves, few-turns}
+use Rattle.machine.proofs.TickCode.{entriesOf, seen, turnsOf, jobsTo, jobs-none, coded-is, moves, few-turns}
 
 module _ (m : Machine) (released finished : ℕ) where
   -- the first pass, at task k + 1 of n

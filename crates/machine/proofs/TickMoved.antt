@@ -1,7 +1,7 @@
 -- What the pass of step 5 comes to, over all tasks: the machine and the set of the tasks that started.
-use Prim.Native.Nat.{ℕ, zero, suc, _+_, _<_, _≤_}
+use Prim.Native.Nat.{ℕ, zero, suc, _<_, _≤_}
 use mathlib.Core.Path.{_≡_, refl, sym, _∙_, ap}
-use mathlib.Core.Bool.{Bool, true, false, cond, _&&_}
+use mathlib.Core.Bool.{Bool, true, false, cond}
 use native.Mathlib.Omega.{arith}
 use lib.ListN.{length}
 use Rattle.maths.proofs.Tasks.{lowest-empty}
@@ -11,12 +11,12 @@ use Rattle.table.specs.Tasks.{M, τ}
 use Rattle.sets.proofs.Wheres.{where-same}
 use Rattle.machine.specs.declared.Machine.{Machine}
 use Rattle.machine.specs.declared.Walk.{Walk}
-use Rattle.machine.specs.Jobs.{isRunning, job, waits, runs, running, idlePartitions}
-use Rattle.machine.specs.Steps.{firstWaiting, startFirst, startWaiting}
+use Rattle.machine.specs.Jobs.{job, waits, running, idlePartitions}
+use Rattle.machine.specs.Steps.{startFirst, startWaiting}
 use Rattle.machine.specs.Passes.{tries, hasRoom, walkGo, walkBy, walkBegin}
 use Rattle.machine.specs.Tick.{startedSet}
-use Rattle.machine.proofs.TickFive.{walked, walked-done}
-use Rattle.machine.proofs.TickStarts.{At, at-none, at-by, at-stop, at-go, starts, start-none, start-turn}
+use Rattle.machine.proofs.TickFive.{start-none, start-turn, walked, walked-done}
+use Rattle.machine.proofs.TickStarts.{At, at-none, at-by, at-stop, at-go}
 
 -- nobody waits
 calm-ends : (turns : ℕ) (m : Machine) → ((j : ℕ) → j < m .table .n → waits m (suc j) ≡ false) → startWaiting turns m ≡ m

@@ -1,23 +1,23 @@
 -- Refusals 9 to 13: from the rules, which go over 32 tasks and the states after steps 1 and 2, to what the code asks of tasks 1 to n.
-use Prim.Native.Nat.{ℕ, zero, suc, _+_, _^_, _<_, _≤_}
+use Prim.Native.Nat.{ℕ, suc, _+_, _<_, _≤_}
 use mathlib.Core.Path.{_≡_, refl, sym, _∙_, ap}
-use mathlib.Core.Bool.{Bool, true, false, cond, not, _&&_, _||_, true≢false}
+use mathlib.Core.Bool.{Bool, true, false, not, _&&_, _||_, true≢false}
 use native.Mathlib.Numerals.{add-one}
 use native.Mathlib.Omega.{arith}
 use borrow.Author.Tests.{lt-ltb, le-ltb, eqb-true}
 use lib.Bits.{bitOr}
 use lib.Dec.{ltb, eqb}
 use Rattle.maths.specs.Tasks.{lowest}
-use Rattle.maths.proofs.Tasks.{lowest-zero, lowest-more, lowest-ext, lowest-empty, lowest-beyond, lowest-none, lowest-past, lowest-found, lowest-stays}
+use Rattle.maths.proofs.Tasks.{lowest-ext, lowest-empty, lowest-beyond, lowest-none, lowest-past, lowest-found, lowest-stays}
 use Rattle.table.specs.Limits.{mostTasks}
 use Rattle.table.specs.Tasks.{τ, T, C}
 use Rattle.sets.specs.TaskSets.{hasTask}
-use Rattle.sets.proofs.Wheres.{task-or, task-above}
+use Rattle.sets.proofs.Wheres.{task-or}
 use Rattle.machine.specs.declared.Given.{Given}
 use Rattle.machine.specs.declared.Machine.{Machine}
-use Rattle.machine.specs.Jobs.{isIdle, isRunning, job, idles, runs}
+use Rattle.machine.specs.Jobs.{job, idles, runs}
 use Rattle.machine.specs.Steps.{passed, finish}
-use Rattle.machine.specs.Passes.{given10, given11, given12, given13, givenWith, givenTo, givenRefusal}
+use Rattle.machine.specs.Passes.{givenWith, givenTo, givenRefusal}
 use Rattle.machine.specs.Tick.{tickRules, firstGiven}
 use Rattle.machine.proofs.Jobs.{passed-job, finished-job}
 use Rattle.machine.proofs.StateParts.{GoodState}

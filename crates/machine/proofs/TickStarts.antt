@@ -1,46 +1,24 @@
 -- Step 5 by one pass over the tasks: what is known after i turns, kept by each way through a turn, and what it comes to.
-use Prim.Native.Nat.{ℕ, zero, suc, _+_, _-_, _<_, _≤_}
-use mathlib.Core.Path.{_≡_, refl, sym, _∙_, ap, subst}
-use mathlib.Core.Bool.{Bool, true, false, cond, _&&_, true≢false, and-false}
+use Prim.Native.Nat.{ℕ, suc, _+_, _-_, _<_, _≤_}
+use mathlib.Core.Path.{_≡_, sym, _∙_, ap, subst}
+use mathlib.Core.Bool.{Bool, true, false, cond, _&&_, true≢false}
 use native.Mathlib.Nat.{not-suc-le-zero}
 use native.Mathlib.Numerals.{add-one}
 use native.Mathlib.Omega.{arith}
-use borrow.Author.Count.{below-more}
 use lib.ListN.{length}
 use Rattle.maths.specs.Tasks.{lowest}
 use Rattle.maths.proofs.Tests.{both}
 use Rattle.maths.proofs.Tasks.{lowest-empty, lowest-found, lowest-stays}
 use Rattle.table.specs.Limits.{mostTasks}
-use Rattle.table.specs.Tasks.{M, τ, A}
+use Rattle.table.specs.Tasks.{M, τ}
 use Rattle.sets.specs.TaskSets.{tasksWhere}
-use Rattle.sets.proofs.Wheres.{where-none, where-same, tasks-or, tasks-out}
-use Rattle.machine.specs.declared.Stage.{Stage}
-use Rattle.machine.specs.declared.Stage.the-variants.{Idle, Waiting, Running}
+use Rattle.sets.proofs.Wheres.{where-none, tasks-or, tasks-out}
 use Rattle.machine.specs.declared.Machine.{Machine}
 use Rattle.machine.specs.declared.Walk.{Walk}
-use Rattle.machine.specs.Jobs.{isWaiting, isRunning, job, waits, runs, running, idlePartitions}
+use Rattle.machine.specs.Jobs.{isRunning, job, waits, running, idlePartitions}
 use Rattle.machine.specs.Steps.{firstWaiting, fits, start, startFirst, startWaiting}
-use Rattle.machine.specs.Passes.{tries, hasRoom, walkGo, walkBy, walkBegin}
-use Rattle.machine.specs.Tick.{startedSet}
-use Rattle.machine.proofs.TickFive.{walked, walked-none, walked-done, walked-left, walked-by, walked-go, running-go, idle-go}
-
-not-both : (s : Stage) → isWaiting s && isRunning s ≡ false
-not-both Idle = refl
-not-both Waiting = refl
-not-both Running = refl
-
--- what holds below i, and of i
-below-suc : (Q : ℕ → Type 0) (i : ℕ) → ((j : ℕ) → j < i → Q j) → Q i → (j : ℕ) → j < suc i → Q j
-below-suc Q i h q = rw (← add-one i) (below-more Q i h q)
-
--- a turn of the definition
-pub start-none : (m : Machine) → startWaiting 0 m ≡ m
-unfolding startWaiting
-start-none m = refl
-
-pub start-turn : (turns : ℕ) (m : Machine) → startWaiting (suc turns) m ≡ startFirst (startWaiting turns) m (firstWaiting m)
-unfolding startWaiting
-start-turn turns m = refl
+use Rattle.machine.specs.Passes.{tries, hasRoom, walkGo, walkBy}
+use Rattle.machine.proofs.TickFive.{not-both, below-suc, start-turn, walked, walked-none, walked-done, walked-left, walked-by, walked-go, running-go, idle-go}
 
 module _ (r : Machine) (w : ℕ → Walk) (late : ℕ → ℕ) where
   -- a task that waits before the step and is running when the pass has come to it

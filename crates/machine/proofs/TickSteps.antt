@@ -1,25 +1,20 @@
 -- The second pass of an accepted tick comes to its steps: the machine that it leaves, and the sets late and started.
-use Prim.Native.Nat.{ℕ, suc, _+_, _<_, _≤_, min}
+use Prim.Native.Nat.{ℕ, suc, _<_, min}
 use mathlib.Core.Path.{_≡_, refl, sym, _∙_, ap}
-use mathlib.Core.Bool.{Bool, true, false, cond, not, _&&_}
-use mathlib.Core.List.{List}
+use mathlib.Core.Bool.{cond}
 use native.Mathlib.Omega.{arith}
 use native.Mathlib.Decide.{decLt}
-use borrow.Author.Tests.{le-leb, lt-leb}
-use lib.Dec.{leb, eqb}
-use Rattle.maths.specs.Tasks.{tabulate}
+use borrow.Author.Tests.{le-leb}
+use lib.Dec.{leb}
 use Rattle.maths.proofs.Arrays.{upTo, tabulate-ext}
-use Rattle.table.specs.declared.Table.{Table}
 use Rattle.table.specs.Limits.{mostTasks}
-use Rattle.table.specs.Tasks.{P, τ, D}
+use Rattle.table.specs.Tasks.{P}
 use Rattle.sets.specs.Sets.{below, without}
-use Rattle.sets.specs.TaskSets.{tasksWhere}
 use Rattle.sets.proofs.Wheres.{where-same}
-use Rattle.machine.specs.declared.Job.{Job}
 use Rattle.machine.specs.declared.Look.{Look}
 use Rattle.machine.specs.declared.Machine.{Machine}
 use Rattle.machine.specs.declared.Walk.{Walk}
-use Rattle.machine.specs.Jobs.{job, idles, running, idlePartitions}
+use Rattle.machine.specs.Jobs.{job, running, idlePartitions}
 use Rattle.machine.specs.Steps.{passed, finish, lateSet, startWaiting}
 use Rattle.machine.specs.Passes.{walkStart}
 use Rattle.machine.specs.Tick.{readied, moved, startedSet}

@@ -1,12 +1,12 @@
 -- Laws for the functions that a tick's passes call for one task.
-use Prim.Native.Nat.{ℕ, suc, _+_, _-_, _/_, _^_, _<_, _≤_}
-use mathlib.Core.Path.{_≡_, refl, sym, _∙_}
+use Prim.Native.Nat.{ℕ, suc, _+_, _/_, _^_, _<_, _≤_}
+use mathlib.Core.Path.{_≡_, refl, sym}
 use mathlib.Core.Bool.{Bool, true, false, cond, _&&_, true≢false, and-assoc}
 use native.Mathlib.Nat.{div-eq-of-lt, div-lt-iff-lt-mul}
 use native.Mathlib.Omega.{arith}
 use native.Mathlib.Decide.{ℕ-discrete, decLt}
-use borrow.Author.Tests.{eq-eqb, ne-eqb, eqb-true, lt-ltb, le-ltb}
-use lib.Bits.{bitOr, or-zero-l, or-add-and, and-le-r}
+use borrow.Author.Tests.{ne-eqb, eqb-true, lt-ltb, le-ltb}
+use lib.Bits.{bitOr, or-zero-l, or-zero-r, or-add-and, and-le-r}
 use lib.Dec.{ltb, eqb}
 use lib.Pow.{pow-pos}
 use Rattle.maths.proofs.Tests.{both}
@@ -24,7 +24,7 @@ use Rattle.machine.specs.declared.Machine.{Machine}
 use Rattle.machine.specs.Jobs.{isIdle, isRunning, job}
 use Rattle.machine.specs.Conditions.{isNoTask, isNoJob, goodStage, goodJob}
 use Rattle.machine.specs.Passes.{admits}
-use Rattle.machine.proofs.StateParts.{ByStage, GoodJob, GoodState}
+use Rattle.machine.proofs.StateParts.{ByStage, GoodState}
 use Rattle.machine.proofs.StateTest.{job-good}
 
 pub one-le : (b : Bool) → cond b 1 0 ≤ 1
@@ -34,6 +34,15 @@ one-le false = omega arith
 pub ran-on : (b : Bool) (x : ℕ) → x + cond b 1 0 ≡ cond b (x + 1) x
 ran-on true x = refl
 ran-on false x = omega arith
+
+-- what is put to a count or a set where the job is not finished
+pub add-kept : (f : Bool) (x y : ℕ) → cond f x (x + y) ≡ x + cond f 0 y
+add-kept true x y = omega arith
+add-kept false x y = refl
+
+pub or-kept : (f : Bool) (x y : ℕ) → cond f x (bitOr x y) ≡ bitOr x (cond f 0 y)
+or-kept true x y = sym (or-zero-r x)
+or-kept false x y = refl
 
 -- a union is empty where both are
 pub or-none : (x y : ℕ) → eqb (bitOr x y) 0 ≡ (eqb x 0 && eqb y 0)

@@ -1,6 +1,6 @@
 // The first pass of a tick: it judges the lent state and the two sets task by task, and changes nothing.
 ghost use mathlib.Core.Path.{_≡_};
-ghost use mathlib.Core.Bool.{true, cond, not, _&&_};
+ghost use mathlib.Core.Bool.{true, not, _&&_};
 ghost use Prim.Native.Nat.{_<_, _≤_};
 ghost use lib.Dec.{eqb};
 ghost use Rattle.table.specs.Limits.{mostTasks, mostPartitions, longestPeriod};
@@ -148,7 +148,7 @@ fn wide(x: u32) -> u64
 }
 
 // 0 exactly where an entry past n is zero.
-pub fn marks(task: Task, j: Job) -> u64
+pub(crate) fn marks(task: Task, j: Job) -> u64
     ensures { λ r. ⌜ eqb r 0 ≡ (isNoTask task && isNoJob j) ⌝ }
 {
     let s = j.stage;
@@ -157,7 +157,7 @@ pub fn marks(task: Task, j: Job) -> u64
 }
 
 // The refusal of a tick by what the first pass found.
-pub fn refusal_of(look: Look, past: u64, m: Machine, released: u32, finished: u32) -> Refusal
+pub(crate) fn refusal_of(look: Look, past: u64, m: Machine, released: u32, finished: u32) -> Refusal
     requires { ⌜ (foundGood look past (M (m .table)) ≡ true → goodState m ≡ true) ⌝ }
     ensures { λ r. ⌜ r ≡ foundRefusal look past m released finished ⌝ }
 {

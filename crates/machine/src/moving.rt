@@ -1,11 +1,10 @@
 // The second pass of a tick: it takes each task through steps 1 to 5.
 ghost use mathlib.Core.Path.{_≡_};
-ghost use mathlib.Core.Bool.{true, cond, _&&_};
+ghost use mathlib.Core.Bool.{true, cond};
 ghost use Prim.Native.Nat.{_+_, _<_, _≤_, min};
 ghost use Rattle.table.specs.Limits.{mostTasks, longestPeriod};
-ghost use Rattle.table.specs.Tasks.{T};
 ghost use Rattle.machine.specs.Steps.{older, awaiting};
-ghost use Rattle.machine.specs.Passes.{finishedJob, readiedJob, walkStart, isLate, tries, hasRoom, walkGo, walkBy, walkBegin, lateWith, walkWith};
+ghost use Rattle.machine.specs.Passes.{finishedJob, walkStart, isLate, tries, hasRoom, walkGo, walkBy, walkBegin, lateWith, walkWith};
 use crate::Job;
 use crate::Look;
 use crate::Stage;
@@ -15,7 +14,7 @@ use table::Partitions;
 use table::Task;
 
 // An age one tick on, held at T.
-pub fn older_age(age: u32, t: u32) -> u32
+pub(crate) fn older_age(age: u32, t: u32) -> u32
     ensures { λ r. ⌜ r ≡ min (age + 1) t ⌝ }
 {
     if age < t { age + 1 } else { t }

@@ -68,7 +68,7 @@ fn given_13(task: Task, j: Job, released: bool, finished: bool) -> bool
 }
 
 // None of refusals 10 to 13 is given of the task.
-pub fn none_given(task: Task, j: Job, released: bool, finished: bool) -> bool
+pub(crate) fn none_given(task: Task, j: Job, released: bool, finished: bool) -> bool
     requires { ⌜ j .ran ≤ longestPeriod ⌝ }
     ensures { λ r. ⌜ r ≡ not (givenOne task j released finished) ⌝ }
 {
@@ -85,7 +85,7 @@ pub fn none_given(task: Task, j: Job, released: bool, finished: bool) -> bool
 }
 
 // The set names no task above n.
-pub fn none_above(x: u32, n: usize) -> bool
+pub(crate) fn none_above(x: u32, n: usize) -> bool
     ensures { λ r. ⌜ r ≡ ltb x (2 ^ n) ⌝ }
 {
     if n < Table::MOST {
@@ -119,7 +119,7 @@ fn first(lower: usize, k: usize, given: bool) -> usize
     if given { k } else { 0 }
 }
 
-pub fn refusal(number: u32, row: usize) -> Refusal
+pub(crate) fn refusal(number: u32, row: usize) -> Refusal
     ensures { λ r. ⌜ r ≡ refuses number row ⌝ }
 {
     Refusal {
@@ -189,7 +189,7 @@ fn first_given(m: Machine, released: u32, finished: u32) -> Given
 }
 
 // The first of refusals 9 to 13.
-pub fn tick_refused(m: Machine, released: u32, finished: u32) -> Refusal
+pub(crate) fn tick_refused(m: Machine, released: u32, finished: u32) -> Refusal
     requires { ⌜ goodState m ≡ true ⌝ }
     ensures { λ r. ⌜ r ≡ firstGiven (tickRules m released finished) ⌝ }
 {

@@ -175,7 +175,7 @@ fn is_no_task(t: Task) -> bool
 }
 
 // How many entries tasks 1 to n have: a refused table may say more than there are.
-pub fn entries(n: usize) -> usize
+pub(crate) fn entries(n: usize) -> usize
     ensures { λ r. ⌜ r ≡ min n mostTasks ⌝ }
 {
     if n < Table::MOST { n } else { Table::MOST }

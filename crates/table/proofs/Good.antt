@@ -1,19 +1,17 @@
 -- A table that is not refused is good.
-use Prim.Native.Nat.{ℕ, zero, suc, _+_, _<_, _≤_, suc-le-suc}
-use mathlib.Core.Path.{_≡_, refl, sym, _∙_, ap}
+use Prim.Native.Nat.{ℕ, zero, suc, _<_, _≤_, suc-le-suc}
+use mathlib.Core.Path.{_≡_, refl}
 use mathlib.Core.Bool.{Bool, true, false, cond}
 use mathlib.Core.List.{List, [], _∷_}
 use native.Mathlib.Nat.{not-suc-le-zero, le-of-suc-le-suc}
 use native.Mathlib.Omega.{arith}
-use borrow.Author.Tests.{ltb-false, eqb-false, eqb-true, eq-eqb, ne-eqb, le-ltb}
+use borrow.Author.Tests.{ltb-false, eqb-false, eqb-true, eq-eqb}
 use lib.Dec.{eqb}
 use lib.ListN.{length, getD, take, length-take}
 use lib.Seq.{getD-take}
-use Rattle.maths.specs.Rules.{first}
 use Rattle.maths.proofs.Tests.{not-given, not-outside, positive}
 use Rattle.table.specs.declared.Task.{Task}
 use Rattle.table.specs.declared.Table.{Table}
-use Rattle.table.specs.declared.Refusal.{Refusal}
 use Rattle.table.specs.Limits.{mostTasks, mostCores, mostPartitions}
 use Rattle.table.specs.Tasks.{noTask, M, P, τ, D, T, C, A}
 use Rattle.table.specs.Refused.{tableRules, sizesRefusal, rowRules, rowRefusal, rowsFrom, refusal}

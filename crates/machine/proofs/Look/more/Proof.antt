@@ -1,6 +1,4 @@
-use mathlib.Core.Path.{_≡_}
 use native.Mathlib.Omega.{arith}
-use mathlib.Core.Bool.{true, false}
 use Rattle.machine.specs.Jobs.{isRunning}
 use Rattle.machine.proofs.TickTurns.{one-le}
 use borrow.Author.Needs.{needs}

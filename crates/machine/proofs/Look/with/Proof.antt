@@ -1,4 +1,4 @@
-use mathlib.Core.Path.{_≡_, sym, _∙_}
+use mathlib.Core.Path.{sym, _∙_}
 use borrow.Author.Tests.{not-true, not-false}
 use Rattle.machine.specs.Passes.{lookWith}
 use Rattle.machine.proofs.TickTurns.{admitted-ran}

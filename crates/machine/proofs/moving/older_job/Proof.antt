@@ -1,4 +1,3 @@
-use mathlib.Core.Path.{_≡_}
 use native.Mathlib.Omega.{arith}
 use Rattle.machine.specs.Jobs.{isRunning}
 use Rattle.machine.proofs.TickTurns.{one-le, ran-on}

@@ -1,5 +1,4 @@
 use mathlib.Core.Path.{sym}
-use native.Mathlib.Omega.{arith}
 use Rattle.maths.proofs.Tasks.{orElse-some, orElse-none}
 use Rattle.machine.proofs.refusing.first.Statement.{statement}
 use Rattle.machine.proofs.refusing.first.Tie as tie

@@ -1,4 +1,4 @@
-use mathlib.Core.Path.{_≡_, sym, _∙_}
+use mathlib.Core.Path.{sym, _∙_}
 use Rattle.maths.proofs.Lists.{len-mapped}
 use Rattle.machine.proofs.StateParts.{GoodState}
 use Rattle.machine.proofs.StateTest.{state-good}

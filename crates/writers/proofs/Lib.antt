@@ -7,3 +7,4 @@ pub mod Tables
 pub mod Signed
 pub mod Margins
 pub mod Ticks
+pub mod Added

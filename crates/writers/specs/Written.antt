@@ -53,3 +53,11 @@ roomFor text room =
 pub record Put (buffer : List ℕ) (at : ℕ) (text : List ℕ) (next : ℕ) (after : List ℕ) : Type 0 where
   pub behind : next ≡ at + length text
   pub holds : after ≡ sets buffer at text
+
+-- a text put only if it has room from its place on
+abbrev pub fitsAt : List ℕ → ℕ → List ℕ → Bool
+fitsAt buffer at text = leb (at + length text) (length buffer)
+
+pub record Added (buffer : List ℕ) (at : ℕ) (text : List ℕ) (next : ℕ) (after : List ℕ) : Type 0 where
+  pub behind : next ≡ cond (fitsAt buffer at text) (at + length text) at
+  pub holds : after ≡ cond (fitsAt buffer at text) (sets buffer at text) buffer

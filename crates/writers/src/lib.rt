@@ -8,7 +8,7 @@ ghost use Rattle.forms.specs.Forms.{ending, line};
 ghost use Rattle.writers.specs.Outputs.{platformRow, platformText, taskRow, tasksText, ticksText, refusedText, marginsText};
 ghost use Rattle.table.specs.Limits.{mostTasks};
 ghost use Rattle.writers.specs.Signed.{marginOf, sign, marginRow};
-ghost use Rattle.writers.specs.Written.{Put, roomFor, tooShort, Wrote, WroteBoth};
+ghost use Rattle.writers.specs.Written.{Put, roomFor, tooShort, Wrote, WroteBoth, Added};
 ghost use Rattle.table.specs.Refused.{noRefusal};
 use table::Platform;
 use table::Refusal;
@@ -21,9 +21,9 @@ pub struct Written {
 }
 
 // What is left of some room, where there was enough.
-struct Room {
-    enough: bool,
-    left: usize,
+pub struct Room {
+    pub enough: bool,
+    pub left: usize,
 }
 
 // How many digits a number has.
@@ -149,7 +149,7 @@ fn row_room(numbers: [u64; 5], columns: usize, room: usize) -> Room
     }
 }
 
-fn word_room(word: &[u8], room: usize) -> Room
+pub fn word_room(word: &[u8], room: usize) -> Room
     ensures { λ r. ⌜ r ≡ roomFor (now (word .entry)) room ⌝ }
 {
     if room < word.len() {
@@ -531,4 +531,40 @@ pub fn write_texts(t: Table, platform: &mut [u8], tasks: &mut [u8]) -> TextsWrit
         platform: a.length,
         tasks: b.length,
     }
+}
+
+// What is left of some room behind a row of the first numbers, so many as there are columns.
+pub fn line_room(numbers: [u64; 5], columns: usize, room: usize) -> Room
+    ensures { λ r. ⌜ r ≡ roomFor (line (take columns numbers)) room ⌝ }
+{
+    row_room(numbers, fewer(columns, 5), room)
+}
+
+// The word at a place of the buffer, if it has room there, and the place behind it.
+pub fn add_word(buf: &mut [u8], at: usize, word: &[u8]) -> usize
+    ensures { λ r. ⌜ Added (now (buf .entry)) at (now (word .entry)) r (now (buf .exit)) ⌝ }
+{
+    if buf.len() < at {
+        return at;
+    }
+    let m = word_room(word, buf.len() - at);
+    if !m.enough {
+        return at;
+    }
+    put_word(buf, at, word)
+}
+
+// A row at a place of the buffer, if it has room there, and the place behind it.
+pub fn add_line(buf: &mut [u8], at: usize, numbers: [u64; 5], columns: usize) -> usize
+    ensures { λ r. ⌜ Added (now (buf .entry)) at (line (take columns numbers)) r (now (buf .exit)) ⌝ }
+{
+    if buf.len() < at {
+        return at;
+    }
+    let n = fewer(columns, 5);
+    let m = row_room(numbers, n, buf.len() - at);
+    if !m.enough {
+        return at;
+    }
+    put_row(buf, at, numbers, n)
 }

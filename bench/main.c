@@ -10,7 +10,7 @@ struct when {
 };
 int clock_gettime(int clock, struct when *now);
 
-enum { MONOTONIC = 1, REPETITIONS = 9, MOST_CASES = 64, WORDS = 3 + 4 * MOST_TASKS };
+enum { OWN_TIME = 2, REPETITIONS = 9, MOST_CASES = 64, WORDS = 3 + 4 * MOST_TASKS, LOT = 2048 };
 
 typedef struct input input;
 typedef u64 rounds(const input *x, u64 n);
@@ -19,7 +19,9 @@ struct input {
     const char *what, *how;
     u32 tasks;
     rounds *proved, *plain;
+    u64 lot; // rounds that are counted, and as many again
     u32 words[WORDS], p, q;
+    u32 reports[2 * LOT];
 };
 
 static input cases[MOST_CASES];
@@ -27,7 +29,7 @@ static int case_count;
 
 static i64 now(void) {
     struct when w;
-    clock_gettime(MONOTONIC, &w);
+    clock_gettime(OWN_TIME, &w);
     return w.seconds * 1000000000 + w.nanoseconds;
 }
 
@@ -70,7 +72,7 @@ static void mark(void) { write(-1, "", 0); }
 
 static int counted(const input *x) {
     u64 a = 0, b = 0;
-    for (u64 n = 10; n <= 20; n += 10) {
+    for (u64 n = x->lot; n <= 2 * x->lot; n += x->lot) {
         mark();
         a += x->proved(x, n);
         mark();
@@ -85,6 +87,16 @@ static u64 c_full(const input *x, u64 n) { return plain_full(x->words, WORDS, x-
 static u64 proved_quick(const input *x, u64 n) { return bench_quick(x->words, WORDS, x->p, x->q, n); }
 static u64 c_quick(const input *x, u64 n) { return plain_quick(x->words, WORDS, x->p, x->q, n); }
 
+// Ticks in lots, each from a fresh machine.
+static u64 in_lots(u64 f(const u32 *, u64, const u32 *, u64), const input *x, u64 n) {
+    u64 h = 0;
+    for (; n > LOT; n -= LOT) h += f(x->words, WORDS, x->reports, 2 * LOT);
+    return h + f(x->words, WORDS, x->reports, 2 * n);
+}
+
+static u64 proved_ticks(const input *x, u64 n) { return in_lots(bench_ticks, x, n); }
+static u64 c_ticks(const input *x, u64 n) { return in_lots(plain_ticks, x, n); }
+
 static input *add(const char *what, u32 tasks, const char *how, rounds *proved, rounds *plain) {
     input *x = &cases[case_count++];
     x->what = what;
@@ -92,6 +104,7 @@ static input *add(const char *what, u32 tasks, const char *how, rounds *proved, 
     x->how = how;
     x->proved = proved;
     x->plain = plain;
+    x->lot = 10;
     return x;
 }
 
@@ -133,9 +146,54 @@ static int admission_cases(void) {
     return bad;
 }
 
+// Every task is released each T ticks, task i first at tick first(i), and every job ends as late as it may.
+static int tick_case(const char *how, u32 n, u32 cores, u32 a, u32 period, u32 run, u32 apart, u32 wanted) {
+    input *x = add("tick", n, how, proved_ticks, c_ticks);
+    u32 *w = x->words, refused = 0;
+    x->lot = 64;
+    w[0] = n;
+    w[1] = cores;
+    w[2] = 64;
+    for (u32 i = 0; i < n; i++) {
+        u32 *row = w + 3 + 4 * i;
+        row[0] = row[1] = period;
+        row[2] = run;
+        row[3] = a;
+    }
+    table t = table_of(w, WORDS);
+    machine m;
+    machine_fresh(&m, &t);
+    for (u32 at = 0; at < LOT; at++) {
+        u32 *report = x->reports + 2 * at;
+        answer got;
+        for (u32 i = 0; i < n; i++) {
+            if (at % period == i * apart % period) report[0] |= (u32)1 << i;
+            if (m.jobs[i].stage == RUNNING && m.jobs[i].ran + 1 == run) report[1] |= (u32)1 << i;
+        }
+        if (wanted == 12 && at % 2) report[0] = ~(u32)0 >> (32 - n);
+        machine_tick(&m, report[0], report[1], &got);
+        if (got.refused.number && got.refused.number != wanted) return printf("tick, %u tasks, %s: refused by %u\n", n, how, got.refused.number);
+        refused += got.refused.number != 0;
+    }
+    if (!wanted != !refused) return printf("tick, %u tasks, %s: %u refused\n", n, how, refused);
+    return 0;
+}
+
+static int tick_cases(void) {
+    static const u32 sizes[3] = {4, 16, 32};
+    int bad = 0;
+    for (int i = 0; i < 3; i++) bad += tick_case("typical", sizes[i], 4, 4, 64, 4, 64 / sizes[i], 0);
+    for (int i = 0; i < 3; i++) {
+        u32 n = sizes[i], running = n < 16 ? n : 16;
+        bad += tick_case("all change", n, 16, 64 / running, n / running, 1, 1, 0);
+    }
+    for (int i = 0; i < 3; i++) bad += tick_case("every other refused", sizes[i], 4, 4, 64, 4, 64 / sizes[i], 12);
+    return bad;
+}
+
 int main(int count, char **words) {
     (void)words;
-    int bad = admission_cases();
+    int bad = admission_cases() + tick_cases();
     for (int i = 0; i < case_count; i++) bad += count > 1 ? counted(&cases[i]) : timed(&cases[i]);
     return bad != 0;
 }

@@ -37,8 +37,31 @@ typedef struct {
     u64 admitted, first;
 } quick;
 
+typedef enum { IDLE, WAITING, RUNNING } stage;
+
+// Of a task's job: age counts ticks since its release, ran those that it has run; held is its set of partitions.
+typedef struct {
+    stage stage;
+    u32 age, ran;
+    u64 held;
+} job;
+
+typedef struct {
+    table table;
+    job jobs[MOST_TASKS];
+} machine;
+
+// What a tick answers: three sets of tasks, or the refusal.
+typedef struct {
+    refusal refused;
+    u32 finished, late, started;
+} answer;
+
+u32 row_refused(const task *r, u32 partitions);
 refusal table_refused(const table *t);
 void full_answer(const table *t, full *answer);
 void quick_answer(const table *t, quick *answer);
+void machine_fresh(machine *m, const table *t);
+void machine_tick(machine *m, u32 released, u32 finished, answer *answer);
 
 #endif

@@ -1,7 +1,8 @@
 // Rounds of the plain version: the same inputs, changed in the same way, and the same fold as in crates/bench.
 // One unit with what it times, as the archive is one, so that both are compiled with all of their code in view.
 #include "rounds.h"
-#include "plain.c"
+#include "plain_admission.c"
+#include "plain_machine.c"
 
 static u64 fold(u64 h, u64 x) { return h % 4294967296 * 31 + x % 4294967296; }
 
@@ -38,6 +39,19 @@ u64 plain_quick(const u32 *words, u64 count, u32 p, u32 q, u64 n) {
         t.partitions = i % 2 == 0 ? p : q;
         quick_answer(&t, &a);
         h = fold(fold(h, a.refused.number), a.first);
+    }
+    return h;
+}
+
+u64 plain_ticks(const u32 *words, u64 count, const u32 *reports, u64 report_words) {
+    table t = table_of(words, count);
+    machine m;
+    u64 h = 0;
+    machine_fresh(&m, &t);
+    for (u64 i = 0; i < report_words / 2; i++) {
+        answer a;
+        machine_tick(&m, reports[2 * i], reports[2 * i + 1], &a);
+        h = fold(fold(fold(h, a.refused.number), a.late), a.started);
     }
     return h;
 }

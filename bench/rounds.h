@@ -12,4 +12,8 @@ u64 plain_full(const u32 *words, u64 count, u32 p, u32 q, u64 n);
 u64 bench_quick(const u32 *words, u64 count, u32 p, u32 q, u64 n);
 u64 plain_quick(const u32 *words, u64 count, u32 p, u32 q, u64 n);
 
+// Ticks of a fresh machine, one for each report: their words stand two by two, released and finished.
+u64 bench_ticks(const u32 *words, u64 count, const u32 *reports, u64 report_words);
+u64 plain_ticks(const u32 *words, u64 count, const u32 *reports, u64 report_words);
+
 #endif

@@ -1,3 +1,4 @@
 pub mod Rounds
 pub mod Tables
 pub mod Admission
+pub mod Ticks

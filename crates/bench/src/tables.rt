@@ -10,7 +10,7 @@ use table::Table;
 use table::Task;
 
 // The word at i, or 0 past the end.
-fn word_at(words: &[u32], i: usize) -> u32
+pub fn word_at(words: &[u32], i: usize) -> u32
     ensures { λ r. ⌜ r ≡ word (now (words .entry)) i ⌝ }
 {
     if i < words.len() { words[i] } else { 0 }

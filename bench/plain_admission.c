@@ -1,7 +1,7 @@
 // Admission in plain C: refusals 1 to 8 of a table, the full and the quick answer.
 #include "plain.h"
 
-static u32 row_refused(const task *r, u32 partitions) {
+u32 row_refused(const task *r, u32 partitions) {
     if (r->t < 1 || r->t > LONGEST_PERIOD) return 4;
     if (r->c == 0) return 5;
     if (r->c > r->d) return 6;

@@ -1,0 +1,37 @@
+use mathlib.Core.Path.{_∙_}
+use borrow.Author.Needs.{needs}
+use Rattle.bench.proofs.ticks.report.Statement.{statement}
+use Rattle.bench.proofs.ticks.report.Tie as tie
+
+mul-word-at : tie.Need-mul-word-at
+mul-word-at c = search needs
+
+word-at-requires : tie.Need-word-at-requires
+word-at-requires c κs = search needs
+
+mul-word-at-2 : tie.Need-mul-word-at-2
+mul-word-at-2 c = search needs
+
+add-word-at : tie.Need-add-word-at
+add-word-at c = search needs
+
+word-at-requires-2 : tie.Need-word-at-requires-2
+word-at-requires-2 c κs = search needs
+
+tick-requires : tie.Need-tick-requires
+tick-requires c κs = search needs
+
+returns : tie.Need-returns
+returns c = c .tick .ensures ∙ rw (c .before .before .word-at .ensures, c .before .word-at2 .ensures)
+
+pub report-spec : {M : Type 1} → statement M
+report-spec =
+    tie.close
+    (tie.spec
+    mul-word-at
+    word-at-requires
+    mul-word-at-2
+    add-word-at
+    word-at-requires-2
+    tick-requires
+    returns)

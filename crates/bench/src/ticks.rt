@@ -9,14 +9,14 @@ use machine::Answer;
 use machine::Machine;
 use machine::Ticked;
 
-pub fn report(reports: &[u32], i: usize, m: Machine) -> Ticked
+pub(crate) fn report(reports: &[u32], i: usize, m: Machine) -> Ticked
     requires { ⌜ 2 * i < length (now reports) ⌝ }
     ensures { λ r. ⌜ r ≡ reported (now (reports .entry)) i m ⌝ }
 {
     m.tick(word_at(reports, 2 * i), word_at(reports, 2 * i + 1))
 }
 
-pub fn fold_answer(h: u64, a: Answer) -> u64
+pub(crate) fn fold_answer(h: u64, a: Answer) -> u64
     ensures { λ r. ⌜ r ≡ answerFolded a h ⌝ }
 {
     let h1 = fold(h, a.refused.number as u64);

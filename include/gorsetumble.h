@@ -2,8 +2,8 @@
  *
  * A row of tasks is lent as a pointer to its first record and a count: any count, 0 and 33 and a million, is a proper call. A machine is lent
  * as a pointer and is moved on in place. A refusal has its number of document 01 (0 is no refusal) and the lowest row or task concerned, and
- * leaves the machine as it was lent. What a caller owes is what C asks of any call: `rows` points to `count` records (it may not be null, also
- * where count is 0), `m` to a machine, and the two do not overlap. */
+ * leaves the machine as it was lent. What a caller owes is what C asks of any call: `rows` points to `count` records, `m` to a machine, and the
+ * two do not overlap. Where count is 0, `rows` ought to be a pointer that is not null; docs/C.md says what is known of null. */
 #ifndef GORSETUMBLE_H
 #define GORSETUMBLE_H
 

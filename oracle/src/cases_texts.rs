@@ -1,8 +1,8 @@
-//! Cases of texts: readers (P, K, R), writers (V, and W for two texts at once), the call from C (C) and the programs' whole work (M, N).
+//! Cases of texts: readers (P, K, R), writers (V, and W for two texts at once), the quick verdict (C) and the programs' whole work (M, N).
 
 use crate::cases_admission::{refused_values, table_values};
 use crate::counts::Counts;
-use crate::draw::texts::{platform_rows, spoiled, task_rows, three, Three};
+use crate::draw::texts::{pair, platform_rows, spoiled, task_rows, three, Three};
 use crate::draw::{states, tables};
 use crate::files::Pair;
 use crate::machine::digest;
@@ -67,22 +67,23 @@ impl Run {
         self.counts.add(format!("{name} {outcome}"));
     }
 
-    /// The programs' work and the call from C, on the same texts.
+    /// The programs' work and the quick verdict, on the same texts.
     fn programs(&mut self, given: &Three) -> io::Result<()> {
         let (platform, tasks) = (given.platform.as_deref(), given.tasks.as_deref());
         let file = |text: Option<&[u8]>| [Value::Number(text.is_some().into()), bytes(text.unwrap_or_default())];
-        let mut case = [file(platform), file(tasks)].concat();
+        let case = [file(platform), file(tasks)].concat();
         let listing = admit(platform, tasks);
         self.count_listing("M", &listing);
         self.pair.write(b'M', &case, &[bytes(&listing)])?;
-        case.push(bytes(&given.ticks));
-        let listing = ticks(platform, tasks, &given.ticks);
-        self.count_listing("N", &listing);
-        self.pair.write(b'N', &case, &[bytes(&listing)])?;
-        let (platform, tasks) = (platform.unwrap_or_default(), tasks.unwrap_or_default());
-        let answer = verdict(platform, tasks);
+        let answer = self.verdict(platform.unwrap_or_default(), tasks.unwrap_or_default())?;
         self.counts.add(if answer > 100 { "C not admitted".to_string() } else { format!("C {answer}") });
-        self.pair.write(b'C', &[bytes(platform), bytes(tasks)], &numbers([answer.into()]))
+        Ok(())
+    }
+
+    fn verdict(&mut self, platform: &[u8], tasks: &[u8]) -> io::Result<u32> {
+        let answer = verdict(platform, tasks);
+        self.pair.write(b'C', &[bytes(platform), bytes(tasks)], &numbers([answer.into()]))?;
+        Ok(answer)
     }
 
     /// Platform and tasks texts of a table, good or not, into buffers that are long enough or just too short: each by itself (V) and
@@ -159,7 +160,19 @@ pub fn write_writers(count_of: u64, seed: u64, pair: Pair) -> io::Result<bool> {
     run.end(&["V written", "V refused 16"].map(String::from))
 }
 
-/// Whole texts in: the programs' work, the call from C, and two texts out.
+/// The quick verdict alone, with every number that it can answer.
+pub fn write_verdicts(count_of: u64, seed: u64, files: Pair) -> io::Result<bool> {
+    let mut run = begin(seed, files);
+    while run.pair.written < count_of {
+        let [platform, tasks] = pair(&mut run.rng);
+        let answer = run.verdict(&platform, &tasks)?;
+        run.counts.add(format!("C {answer:03}"));
+    }
+    let answers = [0, 15].into_iter().chain(1..=8).chain(101..=132);
+    run.end(&answers.map(|answer| format!("C {answer:03}")).collect::<Vec<_>>())
+}
+
+/// Whole texts in: the programs' work, the quick verdict, and two texts out.
 pub fn write(count_of: u64, seed: u64, pair: Pair) -> io::Result<bool> {
     let mut run = begin(seed, pair);
     while run.pair.written < count_of {
@@ -167,11 +180,8 @@ pub fn write(count_of: u64, seed: u64, pair: Pair) -> io::Result<bool> {
         run.programs(&given)?;
         run.writers(b'W')?;
     }
-    let mut wanted =
-        ["C 0", "C 15", "C not admitted", "M listed", "N listed", "W written", "W refused 16"].map(String::from).to_vec();
-    wanted.extend(
-        [15, 1, 2, 3, 4, 5, 6, 7, 8].iter().flat_map(|number| [format!("M refused {number}"), format!("N refused {number}")]),
-    );
+    let mut wanted = ["C 0", "C 15", "C not admitted", "M listed", "W written", "W refused 16"].map(String::from).to_vec();
+    wanted.extend([15, 1, 2, 3, 4, 5, 6, 7, 8].map(|number| format!("M refused {number}")));
     run.end(&wanted)
 }
 

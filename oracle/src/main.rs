@@ -1,8 +1,8 @@
 //! The commands of the second program.
 //!
 //! ```text
-//! oracle cases KIND COUNT SEED CASES EXPECTED   write cases of the kind (admission, machine, readers, writers, texts)
-//!                                               and the answers expected of them
+//! oracle cases KIND COUNT SEED CASES EXPECTED   write cases of the kind (admission, machine, readers, writers, verdicts,
+//!                                               texts) and the answers expected of them
 //! oracle folders COUNT SEED FOLDER              write COUNT folders with the files of the two programs and what they must write
 //! oracle search TICKS SEED                      look for a counterexample to demand 3, and see how tight the test is
 //! oracle judge CASES EXPECTED GOT               hold the answers that were got to those expected
@@ -24,6 +24,7 @@ fn run(words: &[&str]) -> std::io::Result<bool> {
                 "machine" => cases_machine::write(count, seed, pair),
                 "readers" => cases_texts::write_readers(count, seed, pair),
                 "writers" => cases_texts::write_writers(count, seed, pair),
+                "verdicts" => cases_texts::write_verdicts(count, seed, pair),
                 "texts" => cases_texts::write(count, seed, pair),
                 _ => Err(std::io::Error::other(format!("no kind of case '{kind}'"))),
             }

@@ -1,4 +1,4 @@
-//! The two programs, and the call from C.
+//! The two programs, and the quick verdict that C asks for.
 
 use crate::admission::{full, quick};
 use crate::machine::Machine;

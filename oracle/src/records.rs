@@ -4,7 +4,7 @@
 //! The fields of a kind are stated once, below; what is written is checked against them and what is read is read by them.
 //!
 //! ```text
-//! A  both admission answers           P  a platform text is read       C  the call from C
+//! A  both admission answers           P  a platform text is read       C  the quick verdict
 //! S  set-up of the machine kept       K  a tasks text is read          M  the program "admit"
 //! T  a tick of the machine kept       R  a ticks text is read          N  the program "ticks"
 //! X  a tick of a machine given        V  platform and tasks texts are written, each by itself

@@ -2,24 +2,13 @@
  * and machines in use that are set up anew. */
 #include "gorsetumble.h"
 
-extern int printf(const char *, ...);
+#include "expect.h"
 
 typedef gorsetumble_platform Platform;
 typedef gorsetumble_task Task;
 typedef gorsetumble_machine Machine;
 
 _Static_assert(sizeof(Task) == 16 && sizeof(gorsetumble_table) == 528 && sizeof(gorsetumble_job) == 24 && sizeof(Machine) == 1296, "layout");
-
-static unsigned passed, failed;
-
-static void expect(bool good, const char *what) {
-    if (good) {
-        passed++;
-        return;
-    }
-    failed++;
-    printf("failed: %s\n", what);
-}
 
 static bool refused(gorsetumble_refusal r, uint32_t number, size_t row) { return r.number == number && r.row == row; }
 
@@ -90,6 +79,7 @@ static void answers(void) {
     fill((Task){65535, 65535, 1, 0});
     judges("32 rows", wide, rows, 32, 0, 0, 0, of_32);
     judges("no row", wide, rows, 0, 1, 0, 0, NULL);
+    judges("no row, and null", wide, NULL, 0, 1, 0, 0, NULL);
     judges("33 rows", wide, rows, 33, 1, 0, 0, NULL);
     judges("a million rows", wide, rows, sizeof rows / sizeof rows[0], 1, 0, 0, NULL);
     judges("no core", (Platform){0, 64}, rows, 32, 2, 0, 0, NULL);
@@ -131,6 +121,7 @@ static void machines(void) {
 
     ticks("a machine that was never set up", &m, 0, 0, 14, 0, 0, 0);
     sets_up("no row", &m, three_four, p8, 0, 1, 0);
+    sets_up("no row, and null", &m, three_four, NULL, 0, 1, 0);
     sets_up("P8", &m, three_four, p8, 4, 0, 0);
     ticks("P8, tick 0", &m, 15, 0, 0, 0, 0, 3);
     ticks("P8, tick 1", &m, 0, 0, 0, 0, 0, 0);
@@ -187,6 +178,5 @@ static void machines(void) {
 int main(void) {
     answers();
     machines();
-    printf("%u passed, %u failed\n", passed, failed);
-    return failed != 0;
+    return counted();
 }

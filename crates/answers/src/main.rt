@@ -9,20 +9,23 @@ struct Step {
 }
 
 // Answers one case of those that leave the machine alone, and says whether it was one.
-fn answer_apart(kind: u8, room: &mut Room) -> bool {
+fn answer_apart(kind: u8, room: &mut Room, second: &mut Room) -> bool {
     match kind {
         b'A' => answers_tables::admission(),
         b'P' => answers_texts::platform(room),
         b'K' => answers_texts::tasks(room),
         b'R' => answers_texts::ticks(room),
         b'V' => answers_texts::texts(),
+        b'W' => answers_texts::both(),
+        b'M' => answers_wholes::admit(room, second),
+        b'C' => answers_wholes::verdict(room, second),
         _ => return false,
     }
     true
 }
 
 // Answers one case, and says whether there may be another.
-fn answer_one(kept: Machine, room: &mut Room) -> Step {
+fn answer_one(kept: Machine, room: &mut Room, second: &mut Room) -> Step {
     let kind = answers_wire::kind();
     let after = match kind {
         b'S' => answers_tables::set_up(kept),
@@ -30,7 +33,7 @@ fn answer_one(kept: Machine, room: &mut Room) -> Step {
         b'X' => answers_tables::given(),
         _ => {
             return Step {
-                more: answer_apart(kind, room),
+                more: answer_apart(kind, room, second),
                 kept: kept,
             };
         }
@@ -48,9 +51,10 @@ fn main() {
         kept: answers_tables::nothing(),
     };
     let mut room = [0u8; 65536];
+    let mut second = [0u8; 65536];
     let mut turns = u64::MAX;
     while turns > 0 && step.more {
-        step = answer_one(step.kept, &mut room);
+        step = answer_one(step.kept, &mut room, &mut second);
         turns -= 1;
     }
 }

@@ -1,8 +1,9 @@
-// The proved answers on texts, case by case (oracle/src/records.rs, kinds P, K, R and V).
+// The proved answers on texts, case by case (oracle/src/records.rs, kinds P, K, R, V and W).
 mod reads;
 mod writes;
 
 pub use reads::platform;
 pub use reads::tasks;
 pub use reads::ticks;
+pub use writes::both;
 pub use writes::texts;

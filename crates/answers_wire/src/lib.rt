@@ -122,19 +122,20 @@ pub fn send_text(b: &[u8]) {
 // Room for a text. It is made once and used for every case.
 pub type Room = [u8; 65536];
 
-fn length_of(b: &[u8; 4]) -> usize {
+fn number_of(b: &[u8; 4]) -> usize {
     word(b, 0) as usize
 }
 
-fn length() -> usize {
+// The number that standard input goes on with.
+pub fn number() -> usize {
     let mut b = [0u8; 4];
     io::read_full(libc::STDIN_FILENO, &mut b);
-    length_of(&b)
+    number_of(&b)
 }
 
 // Puts the text at the start of the bytes, as much of it as there is room for, and gives its length there.
 pub fn text(b: &mut [u8]) -> usize {
-    let n = most(b, length());
+    let n = most(b, number());
     io::read_full(libc::STDIN_FILENO, &mut b[..n])
 }
 

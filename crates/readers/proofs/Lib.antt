@@ -6,3 +6,4 @@ pub mod Texts
 pub mod Platforms
 pub mod Tasks
 pub mod Ticks
+pub mod Determined

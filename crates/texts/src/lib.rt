@@ -86,7 +86,7 @@ pub fn admit(
 
 // The quick verdict: 0 for admitted, 100 and the first task that does not pass, or the number of the refusal.
 #[no_mangle]
-pub extern "C" fn quick_verdict(platform: &[u8], tasks: &[u8]) -> u32
+pub extern "C" fn gorsetumble_quick_verdict(platform: &[u8], tasks: &[u8]) -> u32
     ensures { λ r. ⌜ r ≡ verdict (now (platform .entry)) (now (tasks .entry)) ⌝ }
 {
     let p = readers::read_platform(platform);

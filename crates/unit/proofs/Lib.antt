@@ -13,3 +13,4 @@ pub mod Renewed
 pub mod Rows
 pub mod Tables
 pub mod Walk
+pub mod PromiseInC

@@ -2,3 +2,4 @@ pub mod Lent
 pub mod Raw
 pub mod InC
 pub mod Demands
+pub mod PromiseInC

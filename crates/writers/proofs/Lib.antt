@@ -8,3 +8,4 @@ pub mod Signed
 pub mod Margins
 pub mod Ticks
 pub mod Added
+pub mod Determined

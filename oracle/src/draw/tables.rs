@@ -156,7 +156,8 @@ pub fn at_edge(rng: &mut Rng, mut table: Table, edge: Edge) -> Option<Table> {
 /// Every task has the shortest deadline with which it passes, or one near it.
 pub fn edge(rng: &mut Rng) -> Table {
     for tries in 1..=8 {
-        let table = light(rng, tries);
+        let n = count(rng);
+        let table = light(rng, n, tries);
         let how = rng.range(0, 5);
         let edge = if how == 2 { Edge::OneShort } else { Edge::Within };
         let Some(mut table) = at_edge(rng, table.clone(), edge) else {
@@ -178,9 +179,21 @@ pub fn edge(rng: &mut Rng) -> Table {
     unreachable!("the eighth try is taken")
 }
 
+/// A table in which one task does not pass, for want of one tick; half of the time there are 32.
+pub fn one_short(rng: &mut Rng) -> Table {
+    let n = if rng.once_in(2) { ROWS } else { rng.range(1, 32) as usize };
+    let mut tries = 1..;
+    loop {
+        let table = light(rng, n, tries.next().unwrap());
+        if let Some(table) = at_edge(rng, table, Edge::OneShort) {
+            return table;
+        }
+    }
+}
+
 /// Long periods and short runs: the more `tries`, the lighter.
-fn light(rng: &mut Rng, tries: u32) -> Table {
-    let (m, p, n) = (rng.range(1, 16), rng.range(1, 64), count(rng));
+fn light(rng: &mut Rng, n: usize, tries: u32) -> Table {
+    let (m, p) = (rng.range(1, 16), rng.range(1, 64));
     let shortest = rng.scaled(20 * tries, 8_000);
     lightly(rng, m, p, n, shortest, (2 + 2 * tries, 6 + 2 * tries))
 }
@@ -236,7 +249,8 @@ pub fn limits(rng: &mut Rng) -> Table {
 
 /// A good table of which one to three numbers are spoiled so that a refusal is earned.
 pub fn damaged(rng: &mut Rng) -> Table {
-    let mut table = if rng.once_in(2) { loose(rng) } else { light(rng, 2) };
+    let n = count(rng);
+    let mut table = if rng.once_in(2) { loose(rng) } else { light(rng, n, 2) };
     for row in &mut table.rows {
         row.d = row.d.max(row.c);
     }
@@ -328,10 +342,23 @@ mod tests {
     }
 
     #[test]
+    fn one_task_alone_does_not_pass() {
+        let mut rng = Rng::new(8);
+        let mut firsts = std::collections::BTreeSet::new();
+        for _ in 0..3000 {
+            let answer = crate::admission::full(&one_short(&mut rng));
+            assert_eq!(answer.margins.iter().filter(|&&x| x <= 0).count(), 1);
+            firsts.insert(answer.first);
+        }
+        assert_eq!(firsts.len(), 32);
+    }
+
+    #[test]
     fn least_slack_is_least() {
         let mut rng = Rng::new(6);
         for _ in 0..300 {
-            let mut t = light(&mut rng, 1);
+            let n = count(&mut rng);
+            let mut t = light(&mut rng, n, 1);
             for k in 1..=t.rows.len() {
                 let (c, longest) = (t.rows[k - 1].c, t.rows[k - 1].t);
                 let passes: Vec<u32> = (0..=(longest - c).min(400))

@@ -58,24 +58,47 @@ fn report_rows(rng: &mut Rng, table: &Table) -> Vec<Vec<u32>> {
     rows
 }
 
+/// Which texts get a fault, half of the time none: 1 is for the platform, 2 for the tasks, 4 for the ticks.
+fn faults(rng: &mut Rng) -> u32 {
+    if rng.once_in(2) {
+        0
+    } else {
+        rng.range(1, 7)
+    }
+}
+
+/// Platform and tasks text of a table; each may be spoiled, missing or too long.
+fn two(rng: &mut Rng, table: &Table, faults: u32) -> [Option<Vec<u8>>; 2] {
+    let mut platform = Some(write(&PLATFORM, &platform_rows(table)));
+    let mut tasks = Some(write(&TASKS, &task_rows(table)));
+    if faults & 1 != 0 && rng.once_in(3) {
+        platform = damage(rng, &PLATFORM, platform);
+    }
+    if faults & 2 != 0 {
+        tasks = damage(rng, &TASKS, tasks);
+    }
+    [platform, tasks]
+}
+
 /// Three texts that belong together; each may be spoiled, missing or too long.
 pub fn three(rng: &mut Rng) -> Three {
     let table = table(rng);
     let ticks = report_rows(rng, &table);
-    let spoiled = if rng.once_in(2) { 0 } else { rng.range(1, 7) };
-    let mut platform = Some(write(&PLATFORM, &platform_rows(&table)));
-    let mut tasks = Some(write(&TASKS, &task_rows(&table)));
+    let faults = faults(rng);
+    let [platform, tasks] = two(rng, &table, faults);
     let mut ticks = write(&TICKS, &ticks);
-    if spoiled & 1 != 0 && rng.once_in(3) {
-        platform = damage(rng, &PLATFORM, platform);
-    }
-    if spoiled & 2 != 0 {
-        tasks = damage(rng, &TASKS, tasks);
-    }
-    if spoiled & 4 != 0 {
+    if faults & 4 != 0 {
         ticks = damage(rng, &TICKS, Some(ticks)).unwrap_or_default();
     }
     Three { platform, tasks, ticks }
+}
+
+/// Platform and tasks text as a caller in C has them, who has no bytes of a file that is missing. In one table of four one task alone
+/// does not pass, so that it is every task's turn.
+pub fn pair(rng: &mut Rng) -> [Vec<u8>; 2] {
+    let table = if rng.once_in(4) { tables::one_short(rng) } else { table(rng) };
+    let faults = faults(rng);
+    two(rng, &table, faults).map(Option::unwrap_or_default)
 }
 
 fn damage(rng: &mut Rng, form: &Form, text: Option<Vec<u8>>) -> Option<Vec<u8>> {

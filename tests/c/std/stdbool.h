@@ -1,3 +1,5 @@
 /* The kit's clang brings no header files: these three stand in for the compiler's own. */
 #pragma once
 #define bool _Bool
+#define true 1
+#define false 0

@@ -10,8 +10,8 @@ use Rattle.admission.specs.declared.QuickAnswer.{QuickAnswer}
 use Rattle.texts.specs.Verdict.{numbered, numberOf, quickNumber, verdict}
 use Rattle.texts.proofs.Answers.{numbered-refused, numbered-admitted, numbered-failing, first-most}
 use Rattle.texts.proofs.Given.{platform-bad, table-bad, table-good, rows-32}
-use Rattle.texts.proofs.quick_verdict.Statement.{statement}
-use Rattle.texts.proofs.quick_verdict.Tie as tie
+use Rattle.texts.proofs.gorsetumble_quick_verdict.Statement.{statement}
+use Rattle.texts.proofs.gorsetumble_quick_verdict.Tie as tie
 
 judges : (c : tie.After-quick-answer) →
     let t = c .before .before .before .before in
@@ -72,8 +72,8 @@ returns-5 c =
     let k = c .before .before .before in
     sym (judges (k .before .before) ∙ numbered-failing (k .before .before .quick-answer .result) (k .if3 .left) (c .before .if4 .left))
 
-pub quick-verdict-spec : {M : Type 1} → statement M
-quick-verdict-spec =
+pub gorsetumble-quick-verdict-spec : {M : Type 1} → statement M
+gorsetumble-quick-verdict-spec =
     tie.close
     (tie.spec
     read-platform-requires

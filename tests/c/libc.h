@@ -1,0 +1,23 @@
+/* The calls of the C library that the tests use: the kit's clang brings no header files. */
+#pragma once
+#include <stddef.h>
+#include <stdint.h>
+
+typedef struct file FILE;
+extern FILE *stdin, *stdout;
+
+extern int printf(const char *, ...);
+extern int dprintf(int, const char *, ...);
+extern int fflush(FILE *);
+extern size_t fread(void *, size_t, size_t, FILE *);
+extern size_t fwrite(const void *, size_t, size_t, FILE *);
+extern _Noreturn void exit(int);
+extern int memcmp(const void *, const void *, size_t);
+extern void *memcpy(void *, const void *, size_t);
+extern void *memset(void *, int, size_t);
+extern void *mmap(void *, size_t, int, int, int, long);
+extern int mprotect(void *, size_t, int);
+
+/* as Linux on x86-64 has them */
+enum { PROT_NONE = 0, PROT_READ = 1, PROT_WRITE = 2, MAP_PRIVATE = 2, MAP_ANONYMOUS = 32 };
+#define MAP_FAILED ((void *)-1)

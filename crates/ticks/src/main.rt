@@ -1,6 +1,7 @@
 // Runs the ticks of standard input on the fresh machine of platform.csv and tasks.csv, of the working folder, and writes a row for each, or
 // the refusal.
 ghost use Rattle.files.specs.Got.{Whole};
+use files::File;
 use libc::STDIN_FILENO;
 use libc::STDOUT_FILENO;
 
@@ -11,16 +12,29 @@ const ROOM: usize = 60_001;
 // bytes, and the listing's header 36: no listing is longer.
 const LISTING: usize = 36 + 11_996 * 106;
 
-// What the files and standard input give, and how long it is. The prover counts out an array that a function makes, so this one is lent.
+// Arrays are lent at their length: the prover would count out one that the function itself makes.
+fn read_text(path: &[u8], buf: &mut [u8; ROOM]) -> File
+    ensures { λ r. ⌜ Whole (r .length) (now (buf .exit)) ⌝ }
+{
+    files::read_file(path, buf)
+}
+
+fn read_input(buf: &mut [u8; ROOM]) -> File
+    ensures { λ r. ⌜ Whole (r .length) (now (buf .exit)) ⌝ }
+{
+    files::read_all(STDIN_FILENO, buf)
+}
+
+// What the files and standard input give, and how long it is.
 fn put_listing(out: &mut [u8; LISTING]) -> usize
     ensures { λ r. ⌜ Whole r (now (out .exit)) ⌝ }
 {
     let mut platform = [0u8; ROOM];
-    let p = files::read_file(b"platform.csv", &mut platform);
+    let p = read_text(b"platform.csv", &mut platform);
     let mut tasks = [0u8; ROOM];
-    let t = files::read_file(b"tasks.csv", &mut tasks);
+    let t = read_text(b"tasks.csv", &mut tasks);
     let mut reports = [0u8; ROOM];
-    let r = files::read_all(STDIN_FILENO, &mut reports);
+    let r = read_input(&mut reports);
     let p_there = p.there;
     let p_length = p.length;
     let t_there = t.there;

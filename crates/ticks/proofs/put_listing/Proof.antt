@@ -5,29 +5,20 @@ use Rattle.writers.proofs.Wholes.{wrote-inside}
 use Rattle.ticks.proofs.put_listing.Statement.{statement}
 use Rattle.ticks.proofs.put_listing.Tie as tie
 
-slice-aggregate-read-file : tie.Need-slice-aggregate-read-file
-slice-aggregate-read-file c = search needs
+slice-aggregate-read-text : tie.Need-slice-aggregate-read-text
+slice-aggregate-read-text c = search needs
 
-slice-aggregate-read-file-2 : tie.Need-slice-aggregate-read-file-2
-slice-aggregate-read-file-2 c = search needs
+read-text-requires : tie.Need-read-text-requires
+read-text-requires c κs = search needs
 
-read-file-requires : tie.Need-read-file-requires
-read-file-requires c κs = search needs
+slice-aggregate-read-text-2 : tie.Need-slice-aggregate-read-text-2
+slice-aggregate-read-text-2 c = search needs
 
-slice-aggregate-read-file-3 : tie.Need-slice-aggregate-read-file-3
-slice-aggregate-read-file-3 c = search needs
+read-text-requires-2 : tie.Need-read-text-requires-2
+read-text-requires-2 c κs = search needs
 
-slice-aggregate-read-file-4 : tie.Need-slice-aggregate-read-file-4
-slice-aggregate-read-file-4 c = search needs
-
-read-file-requires-2 : tie.Need-read-file-requires-2
-read-file-requires-2 c κs = search needs
-
-slice-aggregate-read-all : tie.Need-slice-aggregate-read-all
-slice-aggregate-read-all c = search needs
-
-read-all-requires : tie.Need-read-all-requires
-read-all-requires c κs = search needs
+read-input-requires : tie.Need-read-input-requires
+read-input-requires c κs = search needs
 
 array-share-prefix-platform : tie.Need-array-share-prefix-platform
 array-share-prefix-platform c = search needs
@@ -59,14 +50,11 @@ pub put-listing-spec : {M : Type 1} → statement M
 put-listing-spec =
     tie.close
     (tie.spec
-    slice-aggregate-read-file
-    slice-aggregate-read-file-2
-    read-file-requires
-    slice-aggregate-read-file-3
-    slice-aggregate-read-file-4
-    read-file-requires-2
-    slice-aggregate-read-all
-    read-all-requires
+    slice-aggregate-read-text
+    read-text-requires
+    slice-aggregate-read-text-2
+    read-text-requires-2
+    read-input-requires
     array-share-prefix-platform
     slice-aggregate-ticks
     array-share-prefix-tasks

@@ -1,10 +1,10 @@
 -- From what the readers answer back to the texts.
-use Prim.Native.Nat.{ℕ, _<_, _≤_}
+use Prim.Native.Nat.{ℕ}
 use mathlib.Core.Path.{_≡_, refl, sym, ap, _∙_}
-use mathlib.Core.Bool.{Bool, true, false}
+use mathlib.Core.Bool.{Bool, true, false, _&&_}
 use mathlib.Core.List.{List, map}
 use native.Mathlib.Omega.{arith}
-use borrow.Author.Tests.{le-leb, lt-leb}
+use lib.Dec.{leb}
 use lib.ListN.{length}
 use Rattle.maths.proofs.Padded.{length-padded}
 use Rattle.forms.specs.Forms.{Form}
@@ -20,18 +20,14 @@ use Rattle.readers.specs.declared.TableRead.{TableRead}
 use Rattle.readers.specs.Inputs.{taskOf, tableOf, platformRead, tableRead}
 use Rattle.texts.specs.Given.{given, longest, taken}
 
-module _ (F : Form) (there : Bool) (bytes : List ℕ) where
-  pub taken-missing : there ≡ false → taken F there bytes ≡ refused 0
+module _ (F : Form) (there : Bool) (bytes : List ℕ) (b : Bool) (e : b ≡ (there && leb (length bytes) longest)) where
+  pub taken-not : b ≡ false → taken F there bytes ≡ refused 0
   unfolding taken
-  taken-missing e = rw e
+  taken-not h = rw (sym e, h)
 
-  pub taken-long : there ≡ true → longest < length bytes → taken F there bytes ≡ refused 0
+  pub taken-read : b ≡ true → taken F there bytes ≡ read F bytes
   unfolding taken
-  taken-long e h = rw (e, lt-leb (length bytes) longest h)
-
-  pub taken-read : there ≡ true → length bytes ≤ longest → taken F there bytes ≡ read F bytes
-  unfolding taken
-  taken-read e h = rw (e, le-leb (length bytes) longest h)
+  taken-read h = rw (sym e, h)
 
 -- the platform, and then the table
 module _ {A : Type 0} (bad : Refusal → A) (good : Table → A) where

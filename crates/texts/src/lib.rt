@@ -1,9 +1,11 @@
 // Whole texts in, whole text out: what the programs write, and the quick verdict for the board's start-up code in C.
 ghost use mathlib.Core.Path.{_≡_};
+ghost use mathlib.Core.Bool.{_&&_};
+ghost use lib.Dec.{leb};
 ghost use Rattle.forms.specs.Forms.{platformForm, tasksForm, ticksForm};
 ghost use Rattle.readers.specs.Inputs.{platformRead, tableRead, ticksRead};
 ghost use Rattle.writers.specs.Written.{Wrote};
-ghost use Rattle.texts.specs.Given.{taken};
+ghost use Rattle.texts.specs.Given.{longest, taken};
 ghost use Rattle.texts.specs.Admit.{admitText};
 ghost use Rattle.texts.specs.Verdict.{verdict};
 use readers::PlatformRead;
@@ -15,14 +17,20 @@ use writers::Written;
 // The longest text that a program takes.
 const LONGEST: usize = 60_000;
 
-// A text as a program takes it: any that is not there, or is longer, is refused with 15 and 0.
+// Whether a program takes a text of this length, which is there or not; any other is refused with 15 and 0.
+fn takes(there: bool, length: usize) -> bool
+    ensures { λ r. ⌜ r ≡ (there && leb length longest) ⌝ }
+{
+    if !there {
+        return false;
+    }
+    length <= LONGEST
+}
+
 pub fn take_platform(there: bool, s: &[u8]) -> PlatformRead
     ensures { λ r. ⌜ r ≡ platformRead (taken platformForm there (now (s .entry))) ⌝ }
 {
-    if !there {
-        return PlatformRead::bad(0);
-    }
-    if LONGEST < s.len() {
+    if !takes(there, s.len()) {
         return PlatformRead::bad(0);
     }
     readers::read_platform(s)
@@ -31,10 +39,7 @@ pub fn take_platform(there: bool, s: &[u8]) -> PlatformRead
 pub fn take_tasks(there: bool, s: &[u8], platform: Platform) -> TableRead
     ensures { λ r. ⌜ r ≡ tableRead platform (taken tasksForm there (now (s .entry))) ⌝ }
 {
-    if !there {
-        return TableRead::bad(0);
-    }
-    if LONGEST < s.len() {
+    if !takes(there, s.len()) {
         return TableRead::bad(0);
     }
     readers::read_tasks(s, platform)
@@ -43,10 +48,7 @@ pub fn take_tasks(there: bool, s: &[u8], platform: Platform) -> TableRead
 pub fn take_ticks(there: bool, s: &[u8]) -> TicksRead
     ensures { λ r. ⌜ r ≡ ticksRead (taken ticksForm there (now (s .entry))) ⌝ }
 {
-    if !there {
-        return TicksRead::bad(0);
-    }
-    if LONGEST < s.len() {
+    if !takes(there, s.len()) {
         return TicksRead::bad(0);
     }
     readers::read_ticks(s)

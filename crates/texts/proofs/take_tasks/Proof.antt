@@ -1,38 +1,32 @@
 use borrow.Author.Needs.{needs}
 use mathlib.Core.Path.{_≡_, sym, ap, _∙_}
 use borrow.Author.Tests.{not-true, not-false}
-use denote.Ref.{now}
 use Rattle.forms.specs.Forms.{tasksForm}
 use Rattle.readers.specs.Inputs.{tableRead}
-use Rattle.texts.proofs.Given.{taken-missing, taken-long, taken-read}
+use Rattle.texts.proofs.Given.{taken-not, taken-read}
 use Rattle.texts.proofs.take_tasks.Statement.{statement}
 use Rattle.texts.proofs.take_tasks.Tie as tie
+
+takes-requires : tie.Need-takes-requires
+takes-requires c κs = search needs
 
 bad-requires : tie.Need-bad-requires
 bad-requires c κs = search needs
 
 returns : tie.Need-returns
 returns c =
-    let args = c .before .before .before .args in
-    c .bad .ensures ∙ ap (tableRead (args .platform)) (sym (taken-missing tasksForm (args .there) (now (args .s)) (not-true _ (c .before .if1 .taken))))
-
-bad-requires-2 : tie.Need-bad-requires-2
-bad-requires-2 c κs = search needs
-
-returns-2 : tie.Need-returns-2
-returns-2 c =
-    let args = c .before .before .before .before .args in
-    c .bad2 .ensures ∙ ap (tableRead (args .platform)) (sym (taken-long tasksForm (args .there) (now (args .s)) (not-false _ (c .before .before .if1 .left)) (c .before .if2 .taken)))
+    let k = c .before .before in
+    let args = k .before .before .args in
+    c .bad .ensures ∙ ap (tableRead (args .platform)) (sym (taken-not tasksForm (args .there) (args .s .now) _ (k .takes .ensures) (not-true _ (c .before .if1 .taken))))
 
 read-tasks-requires : tie.Need-read-tasks-requires
 read-tasks-requires c κs = search needs
 
-returns-3 : tie.Need-returns-3
-returns-3 c =
-    let args = c .before .before .before .before .args in
-    c .read-tasks .ensures ∙ ap (tableRead (args .platform)) (sym (taken-read tasksForm (args .there) (now (args .s)) (not-false _ (c .before .before .if1 .left)) (c .before .if2 .left)))
+returns-2 : tie.Need-returns-2
+returns-2 c =
+    let k = c .before .before in
+    let args = k .before .before .args in
+    c .read-tasks .ensures ∙ ap (tableRead (args .platform)) (sym (taken-read tasksForm (args .there) (args .s .now) _ (k .takes .ensures) (not-false _ (c .before .if1 .left))))
 
 pub take-tasks-spec : {M : Type 1} → statement M
-take-tasks-spec =
-    tie.close
-    (tie.spec bad-requires returns bad-requires-2 returns-2 read-tasks-requires returns-3)
+take-tasks-spec = tie.close (tie.spec takes-requires bad-requires returns read-tasks-requires returns-2)

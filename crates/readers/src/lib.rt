@@ -290,6 +290,20 @@ pub struct TickRead {
     pub next: usize,
 }
 
+impl TicksRead {
+    pub fn bad(offset: usize) -> TicksRead
+        ensures { λ r. ⌜ r ≡ ticksRead (refused offset) ⌝ }
+    {
+        TicksRead {
+            refused: Refusal {
+                number: 15,
+                row: offset,
+            },
+            count: 0,
+        }
+    }
+}
+
 impl Tick {
     // The place of the first tick of a ticks text, behind the header.
     pub const FIRST: usize = 19;
@@ -301,26 +315,14 @@ pub fn read_ticks(s: &[u8]) -> TicksRead
 {
     let mut at = agree_at(s, 0, b"released,finished\r\n");
     if at < Tick::FIRST {
-        return TicksRead {
-            refused: Refusal {
-                number: 15,
-                row: at,
-            },
-            count: 0,
-        };
+        return TicksRead::bad(at);
     }
     let mut n: usize = 0;
     while at < s.len() {
         let r = row_at(s, at, 2);
         let next = r.next;
         if !r.whole {
-            return TicksRead {
-                refused: Refusal {
-                    number: 15,
-                    row: next,
-                },
-                count: 0,
-            };
+            return TicksRead::bad(next);
         }
         n += 1;
         at = next;

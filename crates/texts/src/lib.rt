@@ -1,20 +1,22 @@
 // Whole texts in, whole text out: what the programs write, and the quick verdict for the board's start-up code in C.
 ghost use mathlib.Core.Path.{_≡_};
-ghost use Rattle.forms.specs.Forms.{platformForm, tasksForm};
-ghost use Rattle.readers.specs.Inputs.{platformRead, tableRead};
+ghost use Rattle.forms.specs.Forms.{platformForm, tasksForm, ticksForm};
+ghost use Rattle.readers.specs.Inputs.{platformRead, tableRead, ticksRead};
 ghost use Rattle.writers.specs.Written.{Wrote};
 ghost use Rattle.texts.specs.Given.{taken};
 ghost use Rattle.texts.specs.Admit.{admitText};
 ghost use Rattle.texts.specs.Verdict.{verdict};
 use readers::PlatformRead;
 use readers::TableRead;
+use readers::TicksRead;
 use table::Platform;
 use writers::Written;
 
 // The longest text that a program takes.
 const LONGEST: usize = 60_000;
 
-fn take_platform(there: bool, s: &[u8]) -> PlatformRead
+// A text as a program takes it: any that is not there, or is longer, is refused with 15 and 0.
+pub fn take_platform(there: bool, s: &[u8]) -> PlatformRead
     ensures { λ r. ⌜ r ≡ platformRead (taken platformForm there (now (s .entry))) ⌝ }
 {
     if !there {
@@ -26,7 +28,7 @@ fn take_platform(there: bool, s: &[u8]) -> PlatformRead
     readers::read_platform(s)
 }
 
-fn take_tasks(there: bool, s: &[u8], platform: Platform) -> TableRead
+pub fn take_tasks(there: bool, s: &[u8], platform: Platform) -> TableRead
     ensures { λ r. ⌜ r ≡ tableRead platform (taken tasksForm there (now (s .entry))) ⌝ }
 {
     if !there {
@@ -36,6 +38,18 @@ fn take_tasks(there: bool, s: &[u8], platform: Platform) -> TableRead
         return TableRead::bad(0);
     }
     readers::read_tasks(s, platform)
+}
+
+pub fn take_ticks(there: bool, s: &[u8]) -> TicksRead
+    ensures { λ r. ⌜ r ≡ ticksRead (taken ticksForm there (now (s .entry))) ⌝ }
+{
+    if !there {
+        return TicksRead::bad(0);
+    }
+    if LONGEST < s.len() {
+        return TicksRead::bad(0);
+    }
+    readers::read_ticks(s)
 }
 
 // What the program "admit" writes.

@@ -23,8 +23,11 @@ slice-aggregate-agree-at c = search needs
 agree-at-requires : tie.Need-agree-at-requires Inv-loop μ-loop
 agree-at-requires c κs = search needs
 
+bad-requires : tie.Need-bad-requires Inv-loop μ-loop
+bad-requires c κs = search needs
+
 returns : tie.Need-returns Inv-loop μ-loop
-returns c = sym (ap ticksRead (head-bad ticksForm _ _ (c .before .agree-at .ensures) (c .if1 .taken)))
+returns c = c .bad .ensures ∙ sym (ap ticksRead (head-bad ticksForm _ _ (c .before .before .agree-at .ensures) (c .before .if1 .taken)))
 
 loop-holds : tie.Need-loop-holds Inv-loop μ-loop
 loop-holds c =
@@ -34,11 +37,16 @@ loop-holds c =
 row-at-requires : tie.Need-row-at-requires Inv-loop μ-loop
 row-at-requires c κs = (c .before .loop .inv .line .inside, search needs)
 
+bad-requires-2 : tie.Need-bad-requires-2 Inv-loop μ-loop
+bad-requires-2 c κs = search needs
+
 returns-2 : tie.Need-returns-2 Inv-loop μ-loop
 returns-2 c =
-    let k = c .before .before .before .before in
-    let x = c .before .before .row-at in
-    sym (ap ticksRead (line-bad ticksForm 1 ticks-many _ _ _ _ (k .loop .inv .line) (c .before .before .before .loop-test .taken) _ (x .ensures) (not-true _ (c .if2 .taken))))
+    let e = c .before in
+    let k = e .before .before .before .before in
+    let x = e .before .before .row-at in
+    c .bad2 .ensures
+    ∙ sym (ap ticksRead (line-bad ticksForm 1 ticks-many _ _ _ _ (k .loop .inv .line) (e .before .before .before .loop-test .taken) _ (x .ensures) (not-true _ (e .if2 .taken))))
 
 add-n : tie.Need-add-n Inv-loop μ-loop
 add-n c =
@@ -77,9 +85,11 @@ read-ticks-spec =
     μ-loop
     slice-aggregate-agree-at
     agree-at-requires
+    bad-requires
     returns
     loop-holds
     row-at-requires
+    bad-requires-2
     returns-2
     add-n
     loop-less

@@ -1,4 +1,5 @@
-// The proved answers on whole texts, case by case (oracle/src/records.rs): what the program `admit` writes (kind M) and the quick verdict (kind C).
+// The proved answers on whole texts, case by case (oracle/src/records.rs): what the programs `admit` (kind M) and `ticks` (kind N) write, and
+// the quick verdict (kind C).
 use answers_wire::Room;
 use answers_wire::most;
 use answers_wire::number;
@@ -8,18 +9,54 @@ use answers_wire::send_text;
 use answers_wire::text;
 use writers::Written;
 
+// Room for the longest listing: a ticks text of 60,000 bytes has fewer than 12,000 rows, and a row of the listing at most 43 bytes. It is made once and
+// used for every case.
+pub type Listing = [u8; 524288];
+
 fn send_listing(w: Written, out: &[u8]) {
     let n = most(out, w.length);
     send_text(&out[..n]);
 }
 
-// The listing has at most 33 lines, and a line fewer than 60 bytes.
-fn admit_of(platform_there: bool, p: &[u8], n: usize, tasks_there: bool, t: &[u8], m: usize) {
+fn admit_of(
+    platform_there: bool,
+    p: &[u8],
+    n: usize,
+    tasks_there: bool,
+    t: &[u8],
+    m: usize,
+    out: &mut [u8],
+) {
     let n = most(p, n);
     let m = most(t, m);
-    let mut out = [0u8; 2048];
-    let w = texts::admit(platform_there, &p[..n], tasks_there, &t[..m], &mut out);
-    send_listing(w, &out);
+    let w = texts::admit(platform_there, &p[..n], tasks_there, &t[..m], out);
+    send_listing(w, out);
+}
+
+fn ticks_of(
+    platform_there: bool,
+    p: &[u8],
+    n: usize,
+    tasks_there: bool,
+    t: &[u8],
+    m: usize,
+    s: &[u8],
+    l: usize,
+    out: &mut [u8],
+) {
+    let n = most(p, n);
+    let m = most(t, m);
+    let l = most(s, l);
+    let w = runs::ticks(
+        platform_there,
+        &p[..n],
+        tasks_there,
+        &t[..m],
+        true,
+        &s[..l],
+        out,
+    );
+    send_listing(w, out);
 }
 
 fn verdict_of(p: &[u8], n: usize, t: &[u8], m: usize) {
@@ -35,12 +72,32 @@ fn verdict_of(p: &[u8], n: usize, t: &[u8], m: usize) {
 }
 
 // Kind M: each text is there or missing.
-pub fn admit(platform: &mut Room, tasks: &mut Room) {
+pub fn admit(platform: &mut Room, tasks: &mut Room, out: &mut Listing) {
     let platform_there = number() != 0;
     let n = text(platform);
     let tasks_there = number() != 0;
     let m = text(tasks);
-    admit_of(platform_there, platform, n, tasks_there, tasks, m);
+    admit_of(platform_there, platform, n, tasks_there, tasks, m, out);
+}
+
+// Kind N: the same, and a ticks text, which is always there.
+pub fn ticks(platform: &mut Room, tasks: &mut Room, ticks: &mut Room, out: &mut Listing) {
+    let platform_there = number() != 0;
+    let n = text(platform);
+    let tasks_there = number() != 0;
+    let m = text(tasks);
+    let l = text(ticks);
+    ticks_of(
+        platform_there,
+        platform,
+        n,
+        tasks_there,
+        tasks,
+        m,
+        ticks,
+        l,
+        out,
+    );
 }
 
 // Kind C.

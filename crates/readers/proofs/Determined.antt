@@ -32,3 +32,6 @@ module _ (offset : ℕ) where
 
   pub bad-table-determined : (r s : TableRead) → r ≡ tableRead noPlatform (refused offset) → s ≡ tableRead noPlatform (refused offset) → r ≡ s
   bad-table-determined = determined (tableRead noPlatform (refused offset))
+
+  pub bad-ticks-determined : (r s : TicksRead) → r ≡ ticksRead (refused offset) → s ≡ ticksRead (refused offset) → r ≡ s
+  bad-ticks-determined = determined (ticksRead (refused offset))

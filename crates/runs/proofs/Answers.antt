@@ -1,5 +1,5 @@
 -- From what the readers and the table's judge answer back to what is written.
-use Prim.Native.Nat.{ℕ, zero}
+use Prim.Native.Nat.{ℕ}
 use mathlib.Core.Path.{_≡_, refl, sym, ap, _∙_}
 use mathlib.Core.Bool.{Bool, true, false, cond, _&&_}
 use mathlib.Core.List.{List}
@@ -20,7 +20,7 @@ use Rattle.readers.specs.Inputs.{ticksRead}
 use Rattle.writers.specs.Outputs.{refusedText}
 use Rattle.texts.specs.Given.{longest, taken}
 use Rattle.runs.specs.Ticks.{runText, ran}
-use Rattle.runs.specs.Runs.{rowsOf, GoodTicks}
+use Rattle.runs.specs.Runs.{rowsOf, CountedTicks}
 
 pub ticks-bad : (x : Answer (List (List ℕ))) (k : TicksRead) (t : Table) → k ≡ ticksRead x → (k .refused .number ≡ 0 → ⊥) → ran x t ≡ refusedText (k .refused)
 ticks-bad (found rows) k t e h = absurd (h (ap (λ (q : TicksRead). q .refused .number) e))
@@ -36,11 +36,14 @@ module _ (there : Bool) (text : List ℕ) where
       go true e = e
       go false e = absurd (let z : _≡_ {A = ℕ} 0 1 = cc in omega arith)
 
-  pub ticks-good : (k : TicksRead) → k ≡ ticksRead (taken ticksForm there text) → k .refused .number ≡ 0 → (taken ticksForm there text ≡ read ticksForm text) × GoodTicks text
+  pub ticks-good : (k : TicksRead) → k ≡ ticksRead (taken ticksForm there text) → k .refused .number ≡ 0 → (taken ticksForm there text ≡ read ticksForm text) × CountedTicks text (k .count)
   ticks-good k e h = go (taken ticksForm there text) refl
     where
-      go : (x : Answer (List (List ℕ))) → taken ticksForm there text ≡ x → (taken ticksForm there text ≡ read ticksForm text) × GoodTicks text
-      go (found rows) f = let s = same rows f in (f ∙ sym s, s ∙ ap found (sym (ap rowsOf s)))
+      go : (x : Answer (List (List ℕ))) → taken ticksForm there text ≡ x → (taken ticksForm there text ≡ read ticksForm text) × CountedTicks text (k .count)
+      go (found rows) f =
+          let s = same rows f in
+          let all = sym (ap rowsOf s) in
+          (f ∙ sym s, (s ∙ ap found all, ap (λ (q : TicksRead). q .count) (e ∙ ap ticksRead f) ∙ ap length all))
       go (refused offset) f = absurd (no (sym h ∙ ap (λ (q : TicksRead). q .refused .number) (e ∙ ap ticksRead f)))
         where
           no : _≡_ {A = ℕ} 0 15 → ⊥

@@ -1,2 +1,4 @@
 pub mod Runs
 pub mod Answers
+pub mod Determined
+pub mod Widths

@@ -40,7 +40,7 @@ pub going-end : (text : List ℕ) (r : Run) (rows : List (List ℕ)) → Going t
 unfolding lines runRows
 going-end text r rows g h = rw (ticks-end text (r .at) rows (g .rest) h)
 
-counted-most : (before : ℕ) (r : Refusal) → counted before r ≤ suc before
+pub counted-most : (before : ℕ) (r : Refusal) → counted before r ≤ suc before
 counted-most before r = go (eqb (r .number) 0)
   where
     go : (b : Bool) → cond b (suc before) before ≤ suc before

@@ -2,6 +2,7 @@
 use Prim.Native.Nat.{ℕ}
 use mathlib.Core.Path.{_≡_}
 use mathlib.Core.List.{List, [], _∷_}
+use lib.ListN.{length}
 use Rattle.forms.specs.Forms.{ticksForm}
 use Rattle.forms.specs.Reads.{Answer, found, refused}
 use Rattle.forms.specs.Reader.{read}
@@ -20,6 +21,9 @@ ticksIn text = rowsOf (read ticksForm text)
 
 abbrev pub GoodTicks : List ℕ → Type 0
 GoodTicks text = read ticksForm text ≡ found (ticksIn text)
+
+abbrev pub CountedTicks : List ℕ → ℕ → Type 0
+CountedTicks text count = GoodTicks text × (count ≡ length (ticksIn text))
 
 abbrev pub runStart : Machine → Run
 runStart m = record { machine = m; taken = 0; at = firstTick; line = 0 ∷ 0 ∷ 0 ∷ 0 ∷ 0 ∷ [] }

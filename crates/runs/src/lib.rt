@@ -1,12 +1,13 @@
 // What the program "ticks" writes: the ticks of a text on the fresh machine of a table.
-ghost use Prim.Native.Nat.{_<_, _≤_};
+ghost use Prim.Native.Nat.{_+_, _*_, _<_, _≤_};
 ghost use mathlib.Core.Path.{_≡_};
+ghost use lib.Dec.{leb};
 ghost use lib.ListN.{length};
 ghost use Rattle.forms.specs.Forms.{ticksForm};
 ghost use Rattle.forms.specs.Reader.{read};
 ghost use Rattle.writers.specs.Written.{roomFor, Put, Wrote};
 ghost use Rattle.runs.specs.Ticks.{counted, runText, ran, ticksText};
-ghost use Rattle.runs.specs.Runs.{ticksIn, GoodTicks, runStart, runOn};
+ghost use Rattle.runs.specs.Runs.{ticksIn, GoodTicks, CountedTicks, runStart, runOn};
 use machine::Machine;
 use readers::Tick;
 use table::Refusal;
@@ -112,13 +113,34 @@ fn put_run(m: Machine, s: &[u8], out: &mut [u8]) -> usize
     next
 }
 
+// Whether a header of 36 bytes and so many rows of 106 have room. No row is longer: five numbers of at most 20 digits, commas and CR LF.
+fn surely_fits(count: usize, room: usize) -> bool
+    ensures { λ r. ⌜ r ≡ leb (36 + 106 * count) room ⌝ }
+{
+    if room < 36 {
+        return false;
+    }
+    count <= (room - 36) / 106
+}
+
+// Whether the listing has room. Only where the buffer could be too short are the ticks run to measure it.
+fn fits(m: Machine, s: &[u8], count: usize, room: usize) -> bool
+    requires { ⌜ CountedTicks (now s) count ⌝ }
+    ensures { λ r. ⌜ r ≡ leb (length (runText m (ticksIn (now (s .entry))))) room ⌝ }
+{
+    if surely_fits(count, room) {
+        return true;
+    }
+    let r = run_room(m, s, room);
+    r.enough
+}
+
 // The listing of a good ticks text's ticks on the machine.
-fn write_run(m: Machine, s: &[u8], out: &mut [u8]) -> Written
-    requires { ⌜ GoodTicks (now s) ⌝ }
+fn write_run(m: Machine, s: &[u8], count: usize, out: &mut [u8]) -> Written
+    requires { ⌜ CountedTicks (now s) count ⌝ }
     ensures { λ r. ⌜ Wrote (runText m (ticksIn (now (s .entry)))) (now (out .entry)) r (now (out .exit)) ⌝ }
 {
-    let room = run_room(m, s, out.len());
-    if !room.enough {
+    if !fits(m, s, count, out.len()) {
         return Written {
             refused: Refusal { number: 16, row: 0 },
             length: 0,
@@ -132,8 +154,8 @@ fn write_run(m: Machine, s: &[u8], out: &mut [u8]) -> Written
 }
 
 // The same on the fresh machine of a table that is not refused.
-fn write_ran(t: Table, s: &[u8], out: &mut [u8]) -> Written
-    requires { ⌜ GoodTicks (now s) ⌝ }
+fn write_ran(t: Table, s: &[u8], count: usize, out: &mut [u8]) -> Written
+    requires { ⌜ CountedTicks (now s) count ⌝ }
     ensures { λ r. ⌜ Wrote (ran (read ticksForm (now (s .entry))) t) (now (out .entry)) r (now (out .exit)) ⌝ }
 {
     let r = t.refused();
@@ -141,7 +163,7 @@ fn write_ran(t: Table, s: &[u8], out: &mut [u8]) -> Written
         return writers::write_refused(r, out);
     }
     let m = Machine::fresh(t);
-    write_run(m, s, out)
+    write_run(m, s, count, out)
 }
 
 // What the program "ticks" writes.
@@ -173,5 +195,5 @@ pub fn ticks(
         return writers::write_refused(r, out);
     }
     let table = t.table;
-    write_ran(table, ticks, out)
+    write_ran(table, ticks, k.count, out)
 }

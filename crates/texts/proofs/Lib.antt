@@ -1,2 +1,3 @@
 pub mod Given
 pub mod Answers
+pub mod Determined

@@ -51,7 +51,7 @@ module _ (m : Machine) (released finished : ℕ) where
   unfolding givenWith givenTo lowest
   given-more k = rw add-one
 
-neither : (a b : Bool) → a || b ≡ false → (a ≡ false) × (b ≡ false)
+pub neither : (a b : Bool) → a || b ≡ false → (a ≡ false) × (b ≡ false)
 neither true b e = absurd (true≢false e)
 neither false b e = (refl, e)
 

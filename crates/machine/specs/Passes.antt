@@ -31,6 +31,10 @@ finishedJob τ finished j = cond finished (ended (older τ j)) (older τ j)
 abbrev pub readiedJob : Task → Bool → Bool → Job → Job
 readiedJob τ released finished j = cond released (awaiting (finishedJob τ finished j)) (finishedJob τ finished j)
 
+-- a task that idles and is not in the set x
+abbrev pub isLeft : Job → ℕ → ℕ → Bool
+isLeft j x k = isIdle (j .stage) && not (hasTask x k)
+
 -- refusals 10 to 13 of one task
 abbrev pub given10 : Job → Bool → Bool
 given10 j finished = finished && not (isRunning (j .stage))

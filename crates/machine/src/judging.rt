@@ -132,6 +132,9 @@ impl Look {
         if !self.admits(p, task, j) {
             return Look::bad();
         }
+        if j.is_left(released | finished, k) {
+            return self;
+        }
         self.more(
             task,
             j,

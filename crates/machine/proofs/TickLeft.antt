@@ -1,7 +1,7 @@
 -- A task that idles and is in neither set: the first pass goes on with what it found before, and the second changes the task's age only.
 use Prim.Native.Nat.{ℕ, _+_}
 use mathlib.Core.Path.{_≡_, sym, _∙_}
-use mathlib.Core.Bool.{true, false, _&&_, and-true, and-false}
+use mathlib.Core.Bool.{true, false, _&&_, and-false}
 use native.Mathlib.Omega.{arith}
 use borrow.Author.Tests.{eqb-true, not-true}
 use lib.Bits.{bitOr, or-zero-r}
@@ -31,7 +31,7 @@ module _ (τ : Task) (j : Job) (released finished k : ℕ) (left : isLeft j (bit
   unnamed =
       neither _ _ (sym (task-or released finished k) ∙ not-true _ (both (isIdle (j .stage)) _ left .1))
 
-  pub look-left : (p : ℕ) (l : Look) → admits p τ j l ≡ true → l ≡ lookMore τ j (hasTask released k) (hasTask finished k) l
+  pub look-left : (p : ℕ) (l : Look) → admits p τ j l ≡ true → l ≡ lookMore k τ j (hasTask released k) (hasTask finished k) l
   look-left p l e =
       let all = both (l .good && eqb (rowRefusal p τ) 0 && goodJob p τ j) _ e in
       let row = both (l .good && eqb (rowRefusal p τ) 0) _ (all .0) in
@@ -43,7 +43,7 @@ module _ (τ : Task) (j : Job) (released finished k : ℕ) (left : isLeft j (bit
       (λ i.
       record {
         good = both (l .good) _ (row .0) .0 i;
-        clear = sym (and-true (l .clear)) i;
+        refused = l .refused;
         running = runs i;
         held = sym (or-zero-r (l .held)) i;
         stays = stays i;

@@ -62,7 +62,7 @@ static int timed(const input *x) {
         if (!i || first < proved) proved = first;
         if (!i || second < plain) plain = second;
     }
-    printf("%s|%u|%s|%.2f|%.2f\n", x->what, x->tasks, x->how, (double)proved / n, (double)plain / n);
+    printf("%s|%u|%s|%.2f|%.2f|%lu\n", x->what, x->tasks, x->how, (double)proved / n, (double)plain / n, x->lot);
     fflush(0);
     return 0;
 }

@@ -1,6 +1,7 @@
 // Times the proved functions beside the plain C version, both called from here and in turn. Given any word, it runs a few rounds of each
 // instead, between system calls that mark them, for a count of their instructions.
 #include "rounds.h"
+#include "texts.c"
 
 int printf(const char *form, ...);
 int fflush(void *stream);
@@ -22,6 +23,8 @@ struct input {
     u64 lot; // rounds that are counted, and as many again
     u32 words[WORDS], p, q;
     u32 reports[2 * LOT];
+    const u8 *text;
+    u64 length;
 };
 
 static input cases[MOST_CASES];
@@ -62,7 +65,7 @@ static int timed(const input *x) {
         if (!i || first < proved) proved = first;
         if (!i || second < plain) plain = second;
     }
-    printf("%s|%u|%s|%.2f|%.2f\n", x->what, x->tasks, x->how, (double)proved / n, (double)plain / n);
+    printf("%s|%u|%s|%.2f|%.2f|%lu\n", x->what, x->tasks, x->how, (double)proved / n, (double)plain / n, x->lot);
     fflush(0);
     return 0;
 }
@@ -191,9 +194,70 @@ static int tick_cases(void) {
     return bad;
 }
 
+// One reading, or one run of a ticks text, a round; nothing is in view of the compiler that would save it the next.
+static u64 proved_read_tasks(const input *x, u64 n) {
+    u64 h = 0;
+    while (n--) h += bench_read_tasks(x->text, x->length);
+    return h;
+}
+
+static u64 c_read_tasks(const input *x, u64 n) {
+    u64 h = 0;
+    while (n--) h += plain_read_tasks(x->text, x->length);
+    return h;
+}
+
+static u64 proved_read_ticks(const input *x, u64 n) {
+    u64 h = 0;
+    while (n--) h += bench_read_ticks(x->text, x->length);
+    return h;
+}
+
+static u64 c_read_ticks(const input *x, u64 n) {
+    u64 h = 0;
+    while (n--) h += plain_read_ticks(x->text, x->length);
+    return h;
+}
+
+static u64 proved_run(const input *x, u64 n) {
+    u64 h = 0;
+    while (n--) h += bench_run((const u8 *)platform_text, sizeof platform_text - 1, full_tasks, full_length, x->text, x->length, listing[0], LISTING);
+    return h;
+}
+
+static u64 c_run(const input *x, u64 n) {
+    u64 h = 0;
+    while (n--) h += plain_run((const u8 *)platform_text, sizeof platform_text - 1, full_tasks, full_length, x->text, x->length, listing[1], LISTING);
+    return h;
+}
+
+static input *text_case(const char *what, const char *how, rounds *proved, rounds *plain, const u8 *text, u64 length) {
+    input *x = add(what, 32, how, proved, plain);
+    x->lot = 1;
+    x->text = text;
+    x->length = length;
+    return x;
+}
+
+static int text_cases(void) {
+    full_length = tasks_text(full_tasks, 32);
+    long_length = tasks_text(long_tasks, ROOM);
+    ticks_length = ticks_text(long_ticks, full_tasks, full_length, ROOM);
+    some_length = ticks_text(some_ticks, full_tasks, full_length, 5000);
+    text_case("tasks reader", "a full table", proved_read_tasks, c_read_tasks, full_tasks, full_length);
+    text_case("tasks reader", "as long as may be", proved_read_tasks, c_read_tasks, long_tasks, long_length);
+    text_case("ticks reader", "as long as may be", proved_read_ticks, c_read_ticks, long_ticks, ticks_length);
+    const input *x = text_case("whole `ticks`", "a text of 5,000 bytes", proved_run, c_run, some_ticks, some_length);
+    u64 length = proved_run(x, 1);
+    if (length != c_run(x, 1)) return printf("whole ticks: the lengths differ\n");
+    for (u64 i = 0; i < length; i++)
+        if (listing[0][i] != listing[1][i]) return printf("whole ticks: byte %lu differs\n", i);
+    return 0;
+}
+
 int main(int count, char **words) {
     (void)words;
-    int bad = admission_cases() + tick_cases();
+    int bad = admission_cases() + tick_cases() + text_cases();
     for (int i = 0; i < case_count; i++) bad += count > 1 ? counted(&cases[i]) : timed(&cases[i]);
     return bad != 0;
 }

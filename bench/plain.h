@@ -8,7 +8,7 @@ typedef unsigned int u32;
 typedef unsigned long u64;
 typedef long i64;
 
-enum { MOST_TASKS = 32, MOST_CORES = 16, MOST_PARTITIONS = 64, LONGEST_PERIOD = 65535 };
+enum { MOST_TASKS = 32, MOST_CORES = 16, MOST_PARTITIONS = 64, LONGEST_PERIOD = 65535, LONGEST_TEXT = 60000 };
 
 typedef struct {
     u32 d, t, c, a;
@@ -63,5 +63,8 @@ void full_answer(const table *t, full *answer);
 void quick_answer(const table *t, quick *answer);
 void machine_fresh(machine *m, const table *t);
 void machine_tick(machine *m, u32 released, u32 finished, answer *answer);
+refusal read_platform(const u8 *s, u64 length, table *t);
+refusal read_tasks(const u8 *s, u64 length, table *t);
+refusal read_ticks(const u8 *s, u64 length, u64 *count);
 
 #endif

@@ -3,6 +3,7 @@
 #include "rounds.h"
 #include "plain_admission.c"
 #include "plain_machine.c"
+#include "plain_texts.c"
 
 static u64 fold(u64 h, u64 x) { return h % 4294967296 * 31 + x % 4294967296; }
 
@@ -54,4 +55,16 @@ u64 plain_ticks(const u32 *words, u64 count, const u32 *reports, u64 report_word
         h = fold(fold(fold(h, a.refused.number), a.late), a.started);
     }
     return h;
+}
+
+u64 plain_read_tasks(const u8 *text, u64 length) {
+    table t;
+    refusal r = read_tasks(text, length, &t);
+    return fold(fold(fold(t.n, r.row), t.rows[0].d), t.rows[31].a);
+}
+
+u64 plain_read_ticks(const u8 *text, u64 length) {
+    u64 count;
+    refusal r = read_ticks(text, length, &count);
+    return fold(count, r.row);
 }

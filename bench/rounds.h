@@ -16,4 +16,12 @@ u64 plain_quick(const u32 *words, u64 count, u32 p, u32 q, u64 n);
 u64 bench_ticks(const u32 *words, u64 count, const u32 *reports, u64 report_words);
 u64 plain_ticks(const u32 *words, u64 count, const u32 *reports, u64 report_words);
 
+// One reading of a text, folded; what the program `ticks` writes of three texts, its length.
+u64 bench_read_tasks(const u8 *text, u64 length);
+u64 plain_read_tasks(const u8 *text, u64 length);
+u64 bench_read_ticks(const u8 *text, u64 length);
+u64 plain_read_ticks(const u8 *text, u64 length);
+u64 bench_run(const u8 *platform, u64 p, const u8 *tasks, u64 k, const u8 *ticks, u64 n, u8 *out, u64 room);
+u64 plain_run(const u8 *platform, u64 p, const u8 *tasks, u64 k, const u8 *ticks, u64 n, u8 *out, u64 room);
+
 #endif

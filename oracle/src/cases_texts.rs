@@ -71,10 +71,14 @@ impl Run {
     fn programs(&mut self, given: &Three) -> io::Result<()> {
         let (platform, tasks) = (given.platform.as_deref(), given.tasks.as_deref());
         let file = |text: Option<&[u8]>| [Value::Number(text.is_some().into()), bytes(text.unwrap_or_default())];
-        let case = [file(platform), file(tasks)].concat();
+        let mut case = [file(platform), file(tasks)].concat();
         let listing = admit(platform, tasks);
         self.count_listing("M", &listing);
         self.pair.write(b'M', &case, &[bytes(&listing)])?;
+        case.push(bytes(&given.ticks));
+        let listing = ticks(platform, tasks, &given.ticks);
+        self.count_listing("N", &listing);
+        self.pair.write(b'N', &case, &[bytes(&listing)])?;
         let answer = self.verdict(platform.unwrap_or_default(), tasks.unwrap_or_default())?;
         self.counts.add(if answer > 100 { "C not admitted".to_string() } else { format!("C {answer}") });
         Ok(())
@@ -180,8 +184,11 @@ pub fn write(count_of: u64, seed: u64, pair: Pair) -> io::Result<bool> {
         run.programs(&given)?;
         run.writers(b'W')?;
     }
-    let mut wanted = ["C 0", "C 15", "C not admitted", "M listed", "W written", "W refused 16"].map(String::from).to_vec();
-    wanted.extend([15, 1, 2, 3, 4, 5, 6, 7, 8].map(|number| format!("M refused {number}")));
+    let mut wanted =
+        ["C 0", "C 15", "C not admitted", "M listed", "N listed", "W written", "W refused 16"].map(String::from).to_vec();
+    wanted.extend(
+        [15, 1, 2, 3, 4, 5, 6, 7, 8].iter().flat_map(|number| [format!("M refused {number}"), format!("N refused {number}")]),
+    );
     run.end(&wanted)
 }
 

@@ -1,4 +1,5 @@
-// The proved answers on whole texts, case by case (oracle/src/records.rs): what the program `admit` writes (kind M) and the quick verdict (kind C).
+// The proved answers on whole texts, case by case (oracle/src/records.rs): what the programs `admit` (kind M) and `ticks` (kind N) write, and
+// the quick verdict (kind C).
 use answers_wire::Room;
 use answers_wire::most;
 use answers_wire::number;
@@ -8,18 +9,58 @@ use answers_wire::send_text;
 use answers_wire::text;
 use writers::Written;
 
+// Room for the longest listing: a ticks text of 60,000 bytes has fewer than 12,000 rows, and a row of the listing at most 43 bytes. It is made once and
+// used for every case.
+pub type Listing = [u8; 524288];
+
+// A text in its room: whether it is there, and its length.
+struct File {
+    there: bool,
+    length: usize,
+}
+
+fn read_file(room: &mut Room) -> File {
+    let there = number() != 0;
+    File {
+        there: there,
+        length: text(room),
+    }
+}
+
 fn send_listing(w: Written, out: &[u8]) {
     let n = most(out, w.length);
     send_text(&out[..n]);
 }
 
-// The listing has at most 33 lines, and a line fewer than 60 bytes.
-fn admit_of(platform_there: bool, p: &[u8], n: usize, tasks_there: bool, t: &[u8], m: usize) {
-    let n = most(p, n);
-    let m = most(t, m);
-    let mut out = [0u8; 2048];
-    let w = texts::admit(platform_there, &p[..n], tasks_there, &t[..m], &mut out);
-    send_listing(w, &out);
+fn admit_of(p: &[u8], platform: File, t: &[u8], tasks: File, out: &mut [u8]) {
+    let n = most(p, platform.length);
+    let m = most(t, tasks.length);
+    let w = texts::admit(platform.there, &p[..n], tasks.there, &t[..m], out);
+    send_listing(w, out);
+}
+
+fn ticks_of(
+    p: &[u8],
+    platform: File,
+    t: &[u8],
+    tasks: File,
+    s: &[u8],
+    length: usize,
+    out: &mut [u8],
+) {
+    let n = most(p, platform.length);
+    let m = most(t, tasks.length);
+    let l = most(s, length);
+    let w = runs::ticks(
+        platform.there,
+        &p[..n],
+        tasks.there,
+        &t[..m],
+        true,
+        &s[..l],
+        out,
+    );
+    send_listing(w, out);
 }
 
 fn verdict_of(p: &[u8], n: usize, t: &[u8], m: usize) {
@@ -35,17 +76,23 @@ fn verdict_of(p: &[u8], n: usize, t: &[u8], m: usize) {
 }
 
 // Kind M: each text is there or missing.
-pub fn admit(platform: &mut Room, tasks: &mut Room) {
-    let platform_there = number() != 0;
-    let n = text(platform);
-    let tasks_there = number() != 0;
-    let m = text(tasks);
-    admit_of(platform_there, platform, n, tasks_there, tasks, m);
+pub fn admit(p: &mut Room, t: &mut Room, out: &mut Listing) {
+    let platform = read_file(p);
+    let tasks = read_file(t);
+    admit_of(p, platform, t, tasks, out);
+}
+
+// Kind N: the same, and a ticks text, which is always there.
+pub fn ticks(p: &mut Room, t: &mut Room, s: &mut Room, out: &mut Listing) {
+    let platform = read_file(p);
+    let tasks = read_file(t);
+    let length = text(s);
+    ticks_of(p, platform, t, tasks, s, length, out);
 }
 
 // Kind C.
-pub fn verdict(platform: &mut Room, tasks: &mut Room) {
-    let n = text(platform);
-    let m = text(tasks);
-    verdict_of(platform, n, tasks, m);
+pub fn verdict(p: &mut Room, t: &mut Room) {
+    let n = text(p);
+    let m = text(t);
+    verdict_of(p, n, t, m);
 }

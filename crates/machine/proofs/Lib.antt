@@ -6,6 +6,7 @@ pub mod StateLoops
 pub mod StateFresh
 pub mod TickTurns
 pub mod TickRules
+pub mod TickLeft
 pub mod TickAllowed
 pub mod TickLook
 pub mod TickJudge

@@ -47,7 +47,7 @@ no-task τ e =
       a = record { 0 = eqb-true (A τ) 0 (dtc .1) i };
     }
 
-idle-is : (s : Stage) → isIdle s ≡ true → s ≡ Idle
+pub idle-is : (s : Stage) → isIdle s ≡ true → s ≡ Idle
 idle-is Idle e = refl
 idle-is Waiting e = absurd (true≢false (sym e))
 idle-is Running e = absurd (true≢false (sym e))

@@ -1,11 +1,10 @@
--- A tick that none of refusals 9 to 13 stops, task by task: from what the code asks of each task to the first refusal, and back.
+-- A tick that none of refusals 9 to 13 stops, task by task.
 use Prim.Native.Nat.{ℕ, suc, _^_, _<_}
 use mathlib.Core.Path.{_≡_, refl, sym, _∙_, ap}
-use mathlib.Core.Bool.{Bool, true, false, cond, not, _||_, true≢false, and-false}
+use mathlib.Core.Bool.{Bool, true, false, cond, and-false}
 use native.Mathlib.Omega.{arith}
 use native.Mathlib.Decide.{decLt}
 use borrow.Author.Tests.{le-ltb, eqb-true}
-use lib.Bits.{bitOr}
 use lib.Dec.{ltb, eqb}
 use Rattle.maths.specs.Tasks.{lowest}
 use Rattle.maths.proofs.Tasks.{lowest-none, lowest-empty}
@@ -15,14 +14,13 @@ use Rattle.table.specs.Limits.{mostTasks}
 use Rattle.table.specs.Tasks.{τ}
 use Rattle.sets.specs.TaskSets.{hasTask}
 use Rattle.sets.proofs.Wheres.{task-above}
-use Rattle.machine.specs.declared.Given.{Given}
 use Rattle.machine.specs.declared.Job.{Job}
 use Rattle.machine.specs.declared.Machine.{Machine}
 use Rattle.machine.specs.Jobs.{job}
-use Rattle.machine.specs.Passes.{given10, given11, given12, given13, givenOne, givenTo, refuses, givenRefusal}
+use Rattle.machine.specs.Passes.{given10, given11, given12, given13, refuses}
 use Rattle.machine.specs.Tick.{tickRules, firstGiven}
 use Rattle.machine.proofs.StateParts.{GoodState}
-use Rattle.machine.proofs.TickRules.{above, first-is}
+use Rattle.machine.proofs.TickRules.{above, Given, givenTo, givenRefusal, first-is}
 
 -- of task τ with job j, released and finished as r and f say
 pub record Allowed (τ : Task) (j : Job) (r f : Bool) : Type 0 where
@@ -31,19 +29,8 @@ pub record Allowed (τ : Task) (j : Job) (r f : Bool) : Type 0 where
   pub twelve : given12 τ j r ≡ false
   pub thirteen : given13 τ j r f ≡ false
 
-pub allowed-of : (τ : Task) (j : Job) (r f : Bool) → not (givenOne τ j r f) ≡ true → Allowed τ j r f
-allowed-of τ j r f = by (given10 j f) refl (given11 τ j f) refl (given12 τ j r) refl (given13 τ j r f) refl
-  where
-    by : (a : Bool) → given10 j f ≡ a → (b : Bool) → given11 τ j f ≡ b → (c : Bool) → given12 τ j r ≡ c → (d : Bool) → given13 τ j r f ≡ d
-        → not (a || b || c || d) ≡ true → Allowed τ j r f
-    by true w b x c y d z e = absurd (true≢false (sym e))
-    by false w true x c y d z e = absurd (true≢false (sym e))
-    by false w false x true y d z e = absurd (true≢false (sym e))
-    by false w false x false y true z e = absurd (true≢false (sym e))
-    by false w false x false y false z e = record { ten = w; eleven = x; twelve = y; thirteen = z }
-
 -- a set below 2 ^ n names no task above n
-none-above : (n x : ℕ) → x < 2 ^ n → lowest mostTasks (above x n) ≡ 0
+pub none-above : (n x : ℕ) → x < 2 ^ n → lowest mostTasks (above x n) ≡ 0
 none-above n x h = lowest-empty (above x n) mostTasks (λ i l. at i (decLt n (suc i)))
   where
     at : (i : ℕ) → Dec (n < suc i) → above x n (suc i) ≡ false
@@ -76,18 +63,6 @@ module _ (m : Machine) (released finished : ℕ) (g : GoodState m) where
   -- of each task of the table
   abbrev pub AllAllowed : Type 0
   AllAllowed = (i : ℕ) → i < m .table .n → Allowed (τ (m .table) (suc i)) (job m (suc i)) (hasTask released (suc i)) (hasTask finished (suc i))
-
-  pub none-first : bitOr released finished < 2 ^ (m .table .n) → AllAllowed → firstGiven (tickRules m released finished) ≡ refuses 0 0
-  unfolding givenTo givenRefusal
-  none-first h a =
-      first-is m released finished g
-      ∙ rw (
-        none-above (m .table .n) (bitOr released finished) h,
-        lowest-empty (λ k. given10 (job m k) (hasTask finished k)) (m .table .n) (λ i l. a i l .ten),
-        lowest-empty (λ k. given11 (τ (m .table) k) (job m k) (hasTask finished k)) (m .table .n) (λ i l. a i l .eleven),
-        lowest-empty (λ k. given12 (τ (m .table) k) (job m k) (hasTask released k)) (m .table .n) (λ i l. a i l .twelve),
-        lowest-empty (λ k. given13 (τ (m .table) k) (job m k) (hasTask released k) (hasTask finished k)) (m .table .n) (λ i l. a i l .thirteen),
-      )
 
   pub first-none : firstGiven (tickRules m released finished) .number ≡ 0 → AllAllowed
   unfolding givenTo

@@ -1,15 +1,15 @@
 -- What the first pass and the pass over the entries past n come to: the refusal of the tick; and what an accepted tick is for each task.
-use Prim.Native.Nat.{ℕ, suc, _+_, _^_, _≤_, min}
+use Prim.Native.Nat.{ℕ, suc, _+_, _≤_, min}
 use mathlib.Core.Path.{_≡_, refl, sym, _∙_, ap}
 use mathlib.Core.Bool.{Bool, true, false, cond, _&&_, _||_}
 use native.Mathlib.Numerals.{add-one}
 use native.Mathlib.Omega.{arith}
-use borrow.Author.Tests.{le-leb, lt-leb, eq-eqb, eqb-true, ltb-true}
+use borrow.Author.Tests.{le-leb, lt-leb, eq-eqb, eqb-true}
 use lib.Bits.{bitOr}
-use lib.Dec.{ltb, leb, eqb}
+use lib.Dec.{leb, eqb}
 use lib.ListN.{length}
 use Rattle.maths.specs.Tasks.{every}
-use Rattle.maths.proofs.Tasks.{every-holds, every-of}
+use Rattle.maths.proofs.Tasks.{every-of}
 use Rattle.maths.proofs.Tests.{both, same-truth}
 use Rattle.table.specs.Limits.{mostTasks}
 use Rattle.table.specs.Tasks.{M}
@@ -22,14 +22,15 @@ use Rattle.machine.specs.declared.Look.{Look}
 use Rattle.machine.specs.declared.Machine.{Machine}
 use Rattle.machine.specs.Jobs.{job, running}
 use Rattle.machine.specs.Conditions.{goodState}
-use Rattle.machine.specs.Passes.{refuses, foundGood, foundRefusal}
+use Rattle.machine.specs.Passes.{refuses, foundGood, firstAbove, foundRefusal}
 use Rattle.machine.specs.Tick.{tickRules, firstGiven, tickRefusal, accepted}
 use Rattle.machine.proofs.StateParts.{GoodState}
 use Rattle.machine.proofs.StateTest.{state-good, job-test}
 use Rattle.machine.proofs.StateLoops.{goodTask, zeroEntry, running-all}
 use Rattle.machine.proofs.TickTurns.{or-none}
-use Rattle.machine.proofs.TickAllowed.{allowed-of, AllAllowed, none-first, first-none}
-use Rattle.machine.proofs.TickLook.{lookTo, Looked, looked, looks-good, noneGiven}
+use Rattle.machine.proofs.TickRules.{givenRefusal, first-is}
+use Rattle.machine.proofs.TickAllowed.{AllAllowed, first-none}
+use Rattle.machine.proofs.TickLook.{lookTo, Looked, looked, looks-good}
 
 -- the pass over the entries past n, up to k
 abbrev pub zeroTo : Machine → ℕ → Bool
@@ -101,23 +102,21 @@ module _ (m : Machine) (released finished past : ℕ) (len : length (m .table .r
       let g : lookTo m released finished (m .table .n) .good ≡ true = rw (← is) (good .0) in
       rw is (looked m released finished (m .table .n) g)
 
-  -- where the pass found nothing given, no refusal is
-  clear-none : goodState m ≡ true → found .clear ≡ true → firstGiven (tickRules m released finished) ≡ refuses 0 0
-  clear-none e clear =
-      let all = both (ltb (bitOr released finished) (2 ^ (m .table .n))) _ (sym (found-looked e .clear) ∙ clear) in
-      none-first m released finished (state-good m len e) (ltb-true _ _ (all .0))
-      (λ i l. allowed-of _ _ _ _ (every-holds (noneGiven m released finished) (m .table .n) (all .1) i l))
-
-  pub found-refusal : foundRefusal found past m released finished ≡ tickRefusal m released finished
-  unfolding foundRefusal tickRefusal
-  found-refusal = rw found-good (by (goodState m) refl (found .clear) refl)
+  pub found-refusal : foundRefusal found past (M (m .table)) (m .table .n) (bitOr released finished) ≡ tickRefusal m released finished
+  unfolding foundRefusal tickRefusal givenRefusal
+  found-refusal = rw found-good (by (goodState m) refl)
     where
-      by : (b : Bool) → goodState m ≡ b → (c : Bool) → found .clear ≡ c
-          → cond b (cond c (refuses 0 0) (firstGiven (tickRules m released finished))) (refuses 14 0)
+      nine : ℕ
+      nine = firstAbove (bitOr released finished) (m .table .n)
+
+      first : goodState m ≡ true → cond (eqb nine 0) (found .refused) (refuses 9 nine) ≡ firstGiven (tickRules m released finished)
+      first e = rw (found-looked e .refused, first-is m released finished (state-good m len e))
+
+      by : (b : Bool) → goodState m ≡ b
+          → cond b (cond (eqb nine 0) (found .refused) (refuses 9 nine)) (refuses 14 0)
           ≡ cond b (firstGiven (tickRules m released finished)) (refuses 14 0)
-      by true w true x = sym (clear-none w x)
-      by true w false x = refl
-      by false w c x = refl
+      by true w = first w
+      by false w = refl
 
 -- what an accepted tick is
 pub record Accepts (m : Machine) (released finished : ℕ) : Type 0 where

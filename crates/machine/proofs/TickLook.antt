@@ -1,17 +1,15 @@
--- The first pass over the tasks: that it finds good exactly the good states, that where it finds nothing given no refusal is, and what
--- it counts for step 5.
-use Prim.Native.Nat.{ℕ, zero, suc, _+_, _^_, _<_, _≤_, zero-le}
+-- The first pass over the tasks: that it finds good exactly the good states, which refusal it finds, and what it counts for step 5.
+use Prim.Native.Nat.{ℕ, zero, suc, _+_, _<_, _≤_, zero-le}
 use mathlib.Core.Path.{_≡_, refl, sym, _∙_}
-use mathlib.Core.Bool.{Bool, true, false, cond, not, _&&_, true≢false, and-true, and-assoc}
+use mathlib.Core.Bool.{Bool, true, false, cond, _&&_, true≢false}
 use native.Mathlib.Nat.{not-suc-le-zero}
 use native.Mathlib.Numerals.{add-one}
 use native.Mathlib.Omega.{arith}
 use borrow.Author.Count.{below-more}
 use borrow.Author.Tests.{eq-eqb, eqb-true}
-use lib.Bits.{bitAnd, bitOr}
-use lib.Dec.{ltb, eqb}
+use lib.Bits.{bitAnd}
+use lib.Dec.{eqb}
 use Rattle.maths.specs.Sums.{Σ}
-use Rattle.maths.specs.Tasks.{every}
 use Rattle.maths.proofs.Sums.{Σ-zero, Σ-suc}
 use Rattle.maths.proofs.Tests.{both}
 use Rattle.table.specs.Limits.{mostPartitions}
@@ -24,17 +22,18 @@ use Rattle.sets.proofs.Unions.{union-none, union-more, apart-less, apart-last}
 use Rattle.machine.specs.declared.Look.{Look}
 use Rattle.machine.specs.declared.Machine.{Machine}
 use Rattle.machine.specs.Jobs.{job, runs}
-use Rattle.machine.specs.Passes.{givenOne, lookStart, lookBad, admits, lookMore, lookWith}
+use Rattle.machine.specs.Passes.{lookStart, lookBad, admits, lookMore, lookWith}
 use Rattle.machine.proofs.StateLoops.{goodTask, Passed, passed-none, passed-more}
+use Rattle.machine.proofs.TickRules.{givenRefusal, givenTo, given-none, given-more}
 use Rattle.machine.proofs.TickTurns.{one-le, add-kept, or-kept}
 
 module _ (m : Machine) (released finished : ℕ) where
   -- after i turns
   unfoldable pub lookTo : ℕ → Look
-  lookTo zero = lookStart (m .table) released finished
+  lookTo zero = lookStart (m .table)
   lookTo (suc i) = lookWith (suc i) (P (m .table)) (τ (m .table) (suc i)) (job m (suc i)) released finished (lookTo i)
 
-  pub look-none : lookStart (m .table) released finished ≡ lookTo 0
+  pub look-none : lookStart (m .table) ≡ lookTo 0
   unfolding lookTo
   look-none = refl
 
@@ -49,9 +48,6 @@ module _ (m : Machine) (released finished : ℕ) where
   abbrev pub stays : ℕ → ℕ
   stays k = cond (hasTask finished k) 0 (cond (runs m k) 1 0)
 
-  abbrev pub noneGiven : ℕ → Bool
-  noneGiven k = not (givenOne (τ (m .table) k) (job m k) (hasTask released k) (hasTask finished k))
-
   -- what a pass knows that has found i tasks good
   pub record Looked (i : ℕ) (l : Look) : Type 0 where
     pub sizes : sizesRefusal (m .table) ≡ 0
@@ -59,10 +55,9 @@ module _ (m : Machine) (released finished : ℕ) where
     pub jobs : Passed m i (l .held) (l .running)
     pub running : l .stays ≡ Σ i stays
     pub holds : l .busy ≡ unionOf i (λ j. kept (suc j))
-    pub clear : l .clear ≡ (ltb (bitOr released finished) (2 ^ (m .table .n)) && every i noneGiven)
+    pub refused : l .refused ≡ givenRefusal 0 (givenTo m released finished i)
 
-  looked-none : sizesRefusal (m .table) ≡ 0 → Looked 0 (lookStart (m .table) released finished)
-  unfolding every
+  looked-none : sizesRefusal (m .table) ≡ 0 → Looked 0 (lookStart (m .table))
   looked-none e =
       record {
         sizes = e;
@@ -70,14 +65,14 @@ module _ (m : Machine) (released finished : ℕ) where
         jobs = passed-none m;
         running = sym (Σ-zero stays);
         holds = sym (union-none (λ j. kept (suc j)));
-        clear = sym (and-true _);
+        refused = given-none m released finished;
       }
 
   abbrev asked : ℕ → Look → Bool
   asked i l = admits (P (m .table)) (τ (m .table) (suc i)) (job m (suc i)) l
 
   abbrev more : ℕ → Look → Look
-  more i l = lookMore (τ (m .table) (suc i)) (job m (suc i)) (hasTask released (suc i)) (hasTask finished (suc i)) l
+  more i l = lookMore (suc i) (τ (m .table) (suc i)) (job m (suc i)) (hasTask released (suc i)) (hasTask finished (suc i)) l
 
   -- what is asked of one task more
   pub record Fits (i : ℕ) (l : Look) : Type 0 where
@@ -87,7 +82,6 @@ module _ (m : Machine) (released finished : ℕ) where
 
   module _ (i : ℕ) (l : Look) where
     looked-more : Looked i l → Fits i l → Looked (suc i) (more i l)
-    unfolding every
     looked-more k f =
         record {
           sizes = k .sizes;
@@ -95,7 +89,7 @@ module _ (m : Machine) (released finished : ℕ) where
           jobs = rw (← add-one i) (passed-more m i _ _ _ (k .jobs) (f .good) (f .apart) refl);
           running = add-kept (hasTask finished (suc i)) _ _ ∙ rw (k .running) (sym (Σ-suc i stays));
           holds = or-kept (hasTask finished (suc i)) _ _ ∙ rw (k .holds) (sym (union-more (λ j. kept (suc j)) i));
-          clear = rw (k .clear) (and-assoc (ltb (bitOr released finished) (2 ^ (m .table .n))) (every i noneGiven) (noneGiven (suc i)));
+          refused = rw (k .refused) (given-more m released finished i);
         }
 
     -- the test of it
@@ -115,7 +109,7 @@ module _ (m : Machine) (released finished : ℕ) where
   looked (suc i) e = by (asked i (lookTo i)) refl (λ g. looked i g) e
     where
       by : (b : Bool) → asked i (lookTo i) ≡ b → (lookTo i .good ≡ true → Looked i (lookTo i))
-          → cond b (more i (lookTo i)) lookBad .good ≡ true → Looked (suc i) (cond b (more i (lookTo i)) lookBad)
+          → cond b (more i (lookTo i)) (lookBad (lookTo i)) .good ≡ true → Looked (suc i) (cond b (more i (lookTo i)) (lookBad (lookTo i)))
       by true w r g =
           let f = fits-of i (lookTo i) w in
           looked-more i (lookTo i) (r (f .0)) (f .1)
@@ -148,10 +142,10 @@ module _ (m : Machine) (released finished : ℕ) where
   look-small (suc i) = by (asked i (lookTo i)) (hasTask finished (suc i)) (one-le (runs m (suc i))) (look-small i)
     where
       next : Bool → Bool → Look
-      next b f = cond b (lookMore (τ (m .table) (suc i)) (job m (suc i)) (hasTask released (suc i)) f (lookTo i)) lookBad
+      next b f = cond b (lookMore (suc i) (τ (m .table) (suc i)) (job m (suc i)) (hasTask released (suc i)) f (lookTo i)) (lookBad (lookTo i))
 
       by : (b f : Bool) → cond (runs m (suc i)) 1 0 ≤ 1 → (lookTo i .running ≤ i) × (lookTo i .stays ≤ i)
           → (next b f .running ≤ suc i) × (next b f .stays ≤ suc i)
       by true true o r = (omega arith, omega arith)
       by true false o r = (omega arith, omega arith)
-      by false f o r = (zero-le, zero-le)
+      by false f o r = (omega arith, omega arith)

@@ -21,6 +21,7 @@ use Rattle.machine.specs.Jobs.{noJob, job}
 use Rattle.machine.specs.Conditions.{goodState}
 use Rattle.machine.specs.Passes.{lookStart, lookWith, foundGood, foundRefusal, walkStart, walkWith}
 use Rattle.machine.specs.Tick.{tickRefusal, accepted, tick}
+use Rattle.machine.proofs.StateTest.{state-good}
 use Rattle.machine.proofs.StateLoops.{zeroEntry}
 use Rattle.machine.proofs.TickTurns.{good-ran, good-age}
 use Rattle.machine.proofs.TickLook.{lookTo, look-none, look-more, look-partitions, look-small, Looked}
@@ -35,7 +36,7 @@ module _ (m : Machine) (released finished : ℕ) where
     pub low : k ≤ n
     pub found : look ≡ lookTo m released finished k
 
-  pub judging-none : (n : ℕ) (look : Look) → n ≡ entriesOf m released finished → look ≡ lookStart (m .table) released finished → Judging n 0 look
+  pub judging-none : (n : ℕ) (look : Look) → n ≡ entriesOf m released finished → look ≡ lookStart (m .table) → Judging n 0 look
   judging-none n look e s = record { all = e; low = zero-le; found = s ∙ look-none m released finished }
 
   module _ (n k : ℕ) (look : Look) (j : Judging n k look) where
@@ -82,10 +83,10 @@ module _ (m : Machine) (released finished : ℕ) where
         let at-end : k ≡ mostTasks = omega arith in
         rw at-end at (e .zeros)
 
-    pub ending-good : foundGood look past (M (m .table)) ≡ true → goodState m ≡ true
-    ending-good w = sym (found-good m released finished past rows zeros) ∙ (rw (e .found) at w)
+    pub ending-few : foundGood look past (M (m .table)) ≡ true → m .table .n ≤ mostTasks
+    ending-few w = state-good m rows (sym (found-good m released finished past rows zeros) ∙ (rw (e .found) at w)) .table .few
 
-    pub moving-none : length (m .jobs) ≡ mostTasks → (refused : Refusal) (moved : ℕ) (walk : Walk) → refused ≡ foundRefusal look past m released finished
+    pub moving-none : length (m .jobs) ≡ mostTasks → (refused : Refusal) (moved : ℕ) (walk : Walk) → refused ≡ foundRefusal look past (M (m .table)) (m .table .n) (bitOr released finished)
         → moved ≡ cond (eqb (refused .number) 0) n 0 → walk ≡ walkStart (P (m .table)) look → Moving refused moved (m .jobs) walk 0
     moving-none jobs refused moved walk r t w =
         let is : refused ≡ tickRefusal m released finished = r ∙ rw (e .found) (found-refusal m released finished past rows zeros) in

@@ -1,23 +1,23 @@
 -- Refusals 9 to 13: from the rules, which go over 32 tasks and the states after steps 1 and 2, to what the code asks of tasks 1 to n.
-use Prim.Native.Nat.{ℕ, suc, _+_, _<_, _≤_}
+use Prim.Native.Nat.{ℕ, zero, suc, _+_, _<_, _≤_}
 use mathlib.Core.Path.{_≡_, refl, sym, _∙_, ap}
-use mathlib.Core.Bool.{Bool, true, false, not, _&&_, _||_, true≢false}
+use mathlib.Core.Bool.{Bool, true, false, cond, not, _&&_, _||_, true≢false}
 use native.Mathlib.Numerals.{add-one}
 use native.Mathlib.Omega.{arith}
-use borrow.Author.Tests.{lt-ltb, le-ltb, eqb-true}
+use borrow.Author.Tests.{lt-ltb, le-ltb, ne-eqb, eqb-true}
 use lib.Bits.{bitOr}
 use lib.Dec.{ltb, eqb}
-use Rattle.maths.specs.Tasks.{lowest}
+use Rattle.maths.specs.Tasks.{lowest, orElse}
 use Rattle.maths.proofs.Tasks.{lowest-ext, lowest-empty, lowest-beyond, lowest-none, lowest-past, lowest-found, lowest-stays}
+use Rattle.table.specs.declared.Refusal.{Refusal}
 use Rattle.table.specs.Limits.{mostTasks}
 use Rattle.table.specs.Tasks.{τ, T, C}
 use Rattle.sets.specs.TaskSets.{hasTask}
 use Rattle.sets.proofs.Wheres.{task-or}
-use Rattle.machine.specs.declared.Given.{Given}
 use Rattle.machine.specs.declared.Machine.{Machine}
 use Rattle.machine.specs.Jobs.{job, idles, runs}
 use Rattle.machine.specs.Steps.{passed, finish}
-use Rattle.machine.specs.Passes.{givenWith, givenTo, givenRefusal}
+use Rattle.machine.specs.Passes.{given10, given11, given12, given13, givenNumber, refuses, firstOf}
 use Rattle.machine.specs.Tick.{tickRules, firstGiven}
 use Rattle.machine.proofs.Jobs.{passed-job, finished-job}
 use Rattle.machine.proofs.StateParts.{GoodState}
@@ -40,18 +40,95 @@ module _ (x n : ℕ) where
     pub above-past : hasTask x (k + 1) ≡ false → lowest (k + 1) above ≡ 0
     above-past e = lowest-past above k none (rw (lt-ltb n (suc k) (omega arith)) (rw add-one at e))
 
--- the loop over tasks 1 to n
+-- the lowest task of which each of refusals 10 to 13 is given, or 0
+pub record Given : Type 0 where
+  pub ten : ℕ
+  pub eleven : ℕ
+  pub twelve : ℕ
+  pub thirteen : ℕ
+
+-- the first that is given, where refusal 9 is given of task `nine`, or of none
+unfoldable pub givenRefusal : ℕ → Given → Refusal
+givenRefusal nine g =
+    cond (eqb nine 0)
+    (cond (eqb (g .ten) 0)
+    (cond (eqb (g .eleven) 0)
+    (cond (eqb (g .twelve) 0)
+    (cond (eqb (g .thirteen) 0) (refuses 0 0) (refuses 13 (g .thirteen)))
+    (refuses 12 (g .twelve)))
+    (refuses 11 (g .eleven)))
+    (refuses 10 (g .ten)))
+    (refuses 9 nine)
+
+-- over tasks 1 to n
+unfoldable pub givenTo : Machine → ℕ → ℕ → ℕ → Given
+givenTo m released finished n =
+    record {
+      ten = lowest n (λ k. given10 (job m k) (hasTask finished k));
+      eleven = lowest n (λ k. given11 (τ (m .table) k) (job m k) (hasTask finished k));
+      twelve = lowest n (λ k. given12 (τ (m .table) k) (job m k) (hasTask released k));
+      thirteen = lowest n (λ k. given13 (τ (m .table) k) (job m k) (hasTask released k) (hasTask finished k));
+    }
+
+-- one task more, of which the four are given as the four tests say
+abbrev numbered : Bool → Bool → Bool → Bool → ℕ
+numbered w x y z = cond w 10 (cond x 11 (cond y 12 (cond z 13 0)))
+
+abbrev given-of : ℕ → ℕ → ℕ → ℕ → Given
+given-of a b c d = record { ten = a; eleven = b; twelve = c; thirteen = d }
+
+some : (n : ℕ) → eqb (suc n) 0 ≡ false
+some n = ne-eqb (suc n) 0 (λ e. absurd (omega arith))
+
+first-more : (k a b c d : ℕ) (w x y z : Bool)
+    → firstOf (givenRefusal 0 (given-of a b c d)) (numbered w x y z) (suc k)
+    ≡ givenRefusal 0 (given-of (orElse a (cond w (suc k) 0)) (orElse b (cond x (suc k) 0)) (orElse c (cond y (suc k) 0)) (orElse d (cond z (suc k) 0)))
+unfolding givenRefusal
+first-more k (suc a) b c d true x y z = simp some
+first-more k (suc a) b c d false true y z = simp some
+first-more k (suc a) b c d false false true z = simp some
+first-more k (suc a) b c d false false false true = simp some
+first-more k (suc a) b c d false false false false = simp some
+first-more k zero (suc b) c d true x y z = simp some
+first-more k zero (suc b) c d false true y z = simp some
+first-more k zero (suc b) c d false false true z = simp some
+first-more k zero (suc b) c d false false false true = simp some
+first-more k zero (suc b) c d false false false false = simp some
+first-more k zero zero (suc c) d true x y z = simp some
+first-more k zero zero (suc c) d false true y z = simp some
+first-more k zero zero (suc c) d false false true z = simp some
+first-more k zero zero (suc c) d false false false true = simp some
+first-more k zero zero (suc c) d false false false false = simp some
+first-more k zero zero zero (suc d) true x y z = simp some
+first-more k zero zero zero (suc d) false true y z = simp some
+first-more k zero zero zero (suc d) false false true z = simp some
+first-more k zero zero zero (suc d) false false false true = simp some
+first-more k zero zero zero (suc d) false false false false = simp some
+first-more k zero zero zero zero true x y z = simp some
+first-more k zero zero zero zero false true y z = simp some
+first-more k zero zero zero zero false false true z = simp some
+first-more k zero zero zero zero false false false true = simp some
+first-more k zero zero zero zero false false false false = refl
+
 module _ (m : Machine) (released finished : ℕ) where
-  pub given-none : record { ten = 0; eleven = 0; twelve = 0; thirteen = 0 } ≡ givenTo m released finished 0
-  unfolding givenTo lowest
+  pub given-none : refuses 0 0 ≡ givenRefusal 0 (givenTo m released finished 0)
+  unfolding givenRefusal givenTo lowest
   given-none = refl
 
   pub given-more : (k : ℕ)
-      → givenWith (k + 1) (τ (m .table) (suc k)) (job m (suc k)) released finished (givenTo m released finished k) ≡ givenTo m released finished (k + 1)
-  unfolding givenWith givenTo lowest
-  given-more k = rw add-one
+      → firstOf (givenRefusal 0 (givenTo m released finished k))
+      (givenNumber (τ (m .table) (suc k)) (job m (suc k)) (hasTask released (suc k)) (hasTask finished (suc k))) (suc k)
+      ≡ givenRefusal 0 (givenTo m released finished (suc k))
+  unfolding givenTo lowest
+  given-more k =
+      let g = givenTo m released finished k in
+      let t = τ (m .table) (suc k) in
+      let j = job m (suc k) in
+      let r = hasTask released (suc k) in
+      let f = hasTask finished (suc k) in
+      first-more k (g .ten) (g .eleven) (g .twelve) (g .thirteen) (given10 j f) (given11 t j f) (given12 t j r) (given13 t j r f)
 
-neither : (a b : Bool) → a || b ≡ false → (a ≡ false) × (b ≡ false)
+pub neither : (a b : Bool) → a || b ≡ false → (a ≡ false) × (b ≡ false)
 neither true b e = absurd (true≢false e)
 neither false b e = (refl, e)
 

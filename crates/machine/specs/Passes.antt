@@ -1,28 +1,25 @@
 -- What the code of a tick does with one task, in its first pass, which judges, and in its second, which moves. No statement rests on
 -- these definitions: they cut the proof that the passes come to `tick` into the parts that the source has.
-use Prim.Native.Nat.{ℕ, _+_, _^_, min}
-use mathlib.Core.Bool.{Bool, true, false, cond, not, _&&_, _||_}
+use Prim.Native.Nat.{ℕ, _+_, min}
+use mathlib.Core.Bool.{Bool, true, false, cond, not, _&&_}
 use lib.Bits.{bitOr}
 use lib.Dec.{ltb, leb, eqb}
-use Rattle.maths.specs.Tasks.{lowest, orElse}
+use Rattle.maths.specs.Tasks.{lowest}
 use Rattle.table.specs.declared.Task.{Task}
 use Rattle.table.specs.declared.Table.{Table}
 use Rattle.table.specs.declared.Refusal.{Refusal}
-use Rattle.table.specs.Limits.{mostPartitions}
-use Rattle.table.specs.Tasks.{M, τ, D, T, C, A}
+use Rattle.table.specs.Limits.{mostTasks, mostPartitions}
+use Rattle.table.specs.Tasks.{D, T, C, A}
 use Rattle.table.specs.Refused.{sizesRefusal, rowRefusal}
 use Rattle.sets.specs.Sets.{size, below, without, disjoint}
 use Rattle.sets.specs.TaskSets.{hasTask, taskBit}
 use Rattle.sets.specs.Choice.{choice}
 use Rattle.machine.specs.declared.Job.{Job}
-use Rattle.machine.specs.declared.Machine.{Machine}
-use Rattle.machine.specs.declared.Given.{Given}
 use Rattle.machine.specs.declared.Look.{Look}
 use Rattle.machine.specs.declared.Walk.{Walk}
-use Rattle.machine.specs.Jobs.{isIdle, isWaiting, isRunning, noJob, job}
+use Rattle.machine.specs.Jobs.{isIdle, isWaiting, isRunning, noJob}
 use Rattle.machine.specs.Conditions.{goodJob}
 use Rattle.machine.specs.Steps.{older, ended, awaiting, begun}
-use Rattle.machine.specs.Tick.{tickRules, firstGiven}
 
 -- the job of a task after steps 1 and 2, and after step 4, from its job before and whether it finished and was released
 abbrev pub finishedJob : Task → Bool → Job → Job
@@ -30,6 +27,10 @@ finishedJob τ finished j = cond finished (ended (older τ j)) (older τ j)
 
 abbrev pub readiedJob : Task → Bool → Bool → Job → Job
 readiedJob τ released finished j = cond released (awaiting (finishedJob τ finished j)) (finishedJob τ finished j)
+
+-- a task that idles and is not in the set x
+abbrev pub isLeft : Job → ℕ → ℕ → Bool
+isLeft j x k = isIdle (j .stage) && not (hasTask x k)
 
 -- refusals 10 to 13 of one task
 abbrev pub given10 : Job → Bool → Bool
@@ -44,68 +45,38 @@ given12 τ j released = released && ltb (older τ j .age) (T τ)
 abbrev pub given13 : Task → Job → Bool → Bool → Bool
 given13 τ j released finished = released && not (isIdle (finishedJob τ finished j .stage))
 
-abbrev pub givenOne : Task → Job → Bool → Bool → Bool
-givenOne τ j released finished =
-    given10 j finished || given11 τ j finished || given12 τ j released || given13 τ j released finished
-
--- the lowest task of which each is given, or 0: with task k after those before it, and over tasks 1 to n
-unfoldable pub givenWith : ℕ → Task → Job → ℕ → ℕ → Given → Given
-givenWith k τ j released finished g =
-    record {
-      ten = orElse (g .ten) (cond (given10 j (hasTask finished k)) k 0);
-      eleven = orElse (g .eleven) (cond (given11 τ j (hasTask finished k)) k 0);
-      twelve = orElse (g .twelve) (cond (given12 τ j (hasTask released k)) k 0);
-      thirteen = orElse (g .thirteen) (cond (given13 τ j (hasTask released k) (hasTask finished k)) k 0);
-    }
-
-unfoldable pub givenTo : Machine → ℕ → ℕ → ℕ → Given
-givenTo m released finished n =
-    record {
-      ten = lowest n (λ k. given10 (job m k) (hasTask finished k));
-      eleven = lowest n (λ k. given11 (τ (m .table) k) (job m k) (hasTask finished k));
-      twelve = lowest n (λ k. given12 (τ (m .table) k) (job m k) (hasTask released k));
-      thirteen = lowest n (λ k. given13 (τ (m .table) k) (job m k) (hasTask released k) (hasTask finished k));
-    }
+-- the first of them that is given, or 0
+abbrev pub givenNumber : Task → Job → Bool → Bool → ℕ
+givenNumber τ j released finished =
+    cond (given10 j finished) 10
+    (cond (given11 τ j finished) 11
+    (cond (given12 τ j released) 12
+    (cond (given13 τ j released finished) 13 0)))
 
 abbrev pub refuses : ℕ → ℕ → Refusal
 refuses number row = record { number = number; row = row }
 
--- the first that is given, from the lowest task above n that is named and the lowest of which each of the others is given
-unfoldable pub givenRefusal : ℕ → Given → Refusal
-givenRefusal nine g =
-    cond (eqb nine 0)
-    (cond (eqb (g .ten) 0)
-    (cond (eqb (g .eleven) 0)
-    (cond (eqb (g .twelve) 0)
-    (cond (eqb (g .thirteen) 0) (refuses 0 0) (refuses 13 (g .thirteen)))
-    (refuses 12 (g .twelve)))
-    (refuses 11 (g .eleven)))
-    (refuses 10 (g .ten)))
-    (refuses 9 nine)
+-- refusal `number` of task k, if it is not 0, after what was found of the tasks before: the lower number goes first
+abbrev pub firstOf : Refusal → ℕ → ℕ → Refusal
+firstOf r number k =
+    cond (eqb number 0) r (cond (eqb (r .number) 0) (refuses number k) (cond (leb (r .number) number) r (refuses number k)))
 
 -- the first pass: what it starts from, and one task of the table more; a state that is not good is not looked at further
-abbrev pub lookStart : Table → ℕ → ℕ → Look
-lookStart t released finished =
-    record {
-      good = eqb (sizesRefusal t) 0;
-      clear = ltb (bitOr released finished) (2 ^ (t .n));
-      running = 0;
-      held = 0;
-      stays = 0;
-      busy = 0;
-    }
+abbrev pub lookStart : Table → Look
+lookStart t = record { good = eqb (sizesRefusal t) 0; refused = refuses 0 0; running = 0; held = 0; stays = 0; busy = 0 }
 
-abbrev pub lookBad : Look
-lookBad = record { good = false; clear = false; running = 0; held = 0; stays = 0; busy = 0 }
+abbrev pub lookBad : Look → Look
+lookBad l =
+    record { good = false; refused = l .refused; running = l .running; held = l .held; stays = l .stays; busy = l .busy }
 
 abbrev pub admits : ℕ → Task → Job → Look → Bool
 admits p τ j l = l .good && eqb (rowRefusal p τ) 0 && goodJob p τ j && disjoint (l .held) (j .held)
 
-abbrev pub lookMore : Task → Job → Bool → Bool → Look → Look
-lookMore τ j released finished l =
+abbrev pub lookMore : ℕ → Task → Job → Bool → Bool → Look → Look
+lookMore k τ j released finished l =
     record {
       good = true;
-      clear = l .clear && not (givenOne τ j released finished);
+      refused = firstOf (l .refused) (givenNumber τ j released finished) k;
       running = l .running + cond (isRunning (j .stage)) 1 0;
       held = bitOr (l .held) (j .held);
       stays = cond finished (l .stays) (l .stays + cond (isRunning (j .stage)) 1 0);
@@ -114,17 +85,19 @@ lookMore τ j released finished l =
 
 unfoldable pub lookWith : ℕ → ℕ → Task → Job → ℕ → ℕ → Look → Look
 lookWith k p τ j released finished l =
-    cond (admits p τ j l) (lookMore τ j (hasTask released k) (hasTask finished k) l) lookBad
+    cond (admits p τ j l) (lookMore k τ j (hasTask released k) (hasTask finished k) l) (lookBad l)
 
 -- refusal 14 is not given, by what the first pass found of tasks 1 to n and of the entries past n
 abbrev pub foundGood : Look → ℕ → ℕ → Bool
 foundGood l past m = l .good && eqb past 0 && leb (l .running) m
 
-unfoldable pub foundRefusal : Look → ℕ → Machine → ℕ → ℕ → Refusal
-foundRefusal l past m released finished =
-    cond (foundGood l past (M (m .table)))
-    (cond (l .clear) (refuses 0 0) (firstGiven (tickRules m released finished)))
-    (refuses 14 0)
+-- the lowest task above n in the set, or 0
+abbrev pub firstAbove : ℕ → ℕ → ℕ
+firstAbove x n = lowest mostTasks (λ k. ltb n k && hasTask x k)
+
+unfoldable pub foundRefusal : Look → ℕ → ℕ → ℕ → ℕ → Refusal
+foundRefusal l past m n named =
+    cond (foundGood l past m) (cond (eqb (firstAbove named n) 0) (l .refused) (refuses 9 (firstAbove named n))) (refuses 14 0)
 
 -- the second pass: what it starts from, and one task more
 abbrev pub walkStart : ℕ → Look → Walk

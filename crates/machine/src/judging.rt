@@ -1,19 +1,17 @@
 // The first pass of a tick: it judges the lent state and the two sets task by task, and changes nothing.
 ghost use mathlib.Core.Path.{_≡_};
-ghost use mathlib.Core.Bool.{true, not, _&&_};
+ghost use mathlib.Core.Bool.{true, _&&_};
 ghost use Prim.Native.Nat.{_<_, _≤_};
 ghost use lib.Dec.{eqb};
 ghost use Rattle.table.specs.Limits.{mostTasks, mostPartitions, longestPeriod};
-ghost use Rattle.table.specs.Tasks.{M};
-ghost use Rattle.machine.specs.Conditions.{isNoTask, isNoJob, goodState};
-ghost use Rattle.machine.specs.Passes.{givenOne, lookStart, lookBad, admits, lookMore, lookWith, foundGood, foundRefusal};
+ghost use Rattle.machine.specs.Conditions.{isNoTask, isNoJob};
+ghost use Rattle.machine.specs.Passes.{lookStart, lookBad, admits, lookMore, lookWith, foundGood, foundRefusal};
 use crate::Job;
 use crate::Look;
-use crate::Machine;
-use crate::refusing::none_above;
-use crate::refusing::none_given;
+use crate::refusing::first_above;
+use crate::refusing::first_of;
+use crate::refusing::number_of;
 use crate::refusing::refusal;
-use crate::refusing::tick_refused;
 use table::Cores;
 use table::Partitions;
 use table::Refusal;
@@ -21,13 +19,13 @@ use table::Table;
 use table::Task;
 
 impl Look {
-    pub(crate) fn start(t: Table, released: u32, finished: u32) -> Look
-        ensures { λ r. ⌜ r ≡ lookStart t released finished ⌝ }
+    pub(crate) fn start(t: Table) -> Look
+        ensures { λ r. ⌜ r ≡ lookStart t ⌝ }
     {
-        let refused = t.sizes_refused();
+        let number = t.sizes_refused();
         Look {
-            good: refused == 0,
-            clear: none_above(released | finished, t.n),
+            good: number == 0,
+            refused: refusal(0, 0),
             running: 0,
             held: 0,
             stays: 0,
@@ -35,16 +33,17 @@ impl Look {
         }
     }
 
-    fn bad() -> Look
-        ensures { λ r. ⌜ r ≡ lookBad ⌝ }
+    fn bad(self) -> Look
+        ensures { λ r. ⌜ r ≡ lookBad self ⌝ }
     {
+        let refused = self.refused;
         Look {
             good: false,
-            clear: false,
-            running: 0,
-            held: 0,
-            stays: 0,
-            busy: 0,
+            refused: refused,
+            running: self.running,
+            held: self.held,
+            stays: self.stays,
+            busy: self.busy,
         }
     }
 
@@ -65,28 +64,19 @@ impl Look {
         self.held & j.held == 0
     }
 
-    fn clear_of(self, task: Task, j: Job, released: bool, finished: bool) -> bool
-        requires { ⌜ j .ran ≤ longestPeriod ⌝ }
-        ensures { λ r. ⌜ r ≡ (self .clear && not (givenOne task j released finished)) ⌝ }
-    {
-        if !self.clear {
-            return false;
-        }
-        none_given(task, j, released, finished)
-    }
-
     // A good task more.
-    fn more(self, task: Task, j: Job, released: bool, finished: bool) -> Look
+    fn more(self, k: usize, task: Task, j: Job, released: bool, finished: bool) -> Look
         requires { ⌜ (self .running < mostTasks) × (self .stays < mostTasks) × (j .ran ≤ longestPeriod) ⌝ }
-        ensures { λ r. ⌜ r ≡ lookMore task j released finished self ⌝ }
+        ensures { λ r. ⌜ r ≡ lookMore k task j released finished self ⌝ }
     {
         let s = j.stage;
         let runs = s.runs();
-        let clear = self.clear_of(task, j, released, finished);
+        let number = number_of(task, j, released, finished);
+        let refused = first_of(self.refused, number, k);
         if finished {
             return Look {
                 good: true,
-                clear: clear,
+                refused: refused,
                 running: self.running + runs,
                 held: self.held | j.held,
                 stays: self.stays,
@@ -95,7 +85,7 @@ impl Look {
         }
         Look {
             good: true,
-            clear: clear,
+            refused: refused,
             running: self.running + runs,
             held: self.held | j.held,
             stays: self.stays + runs,
@@ -130,9 +120,13 @@ impl Look {
         ensures { λ r. ⌜ r ≡ lookWith k (p .0) task j released finished self ⌝ }
     {
         if !self.admits(p, task, j) {
-            return Look::bad();
+            return self.bad();
+        }
+        if j.is_left(released | finished, k) {
+            return self;
         }
         self.more(
+            k,
             task,
             j,
             sets::has_task(released, k),
@@ -156,16 +150,18 @@ pub(crate) fn marks(task: Task, j: Job) -> u64
     wide(task.d | task.t | task.c | task.a.0 | job) | j.held
 }
 
-// The refusal of a tick by what the first pass found.
-pub(crate) fn refusal_of(look: Look, past: u64, m: Machine, released: u32, finished: u32) -> Refusal
-    requires { ⌜ (foundGood look past (M (m .table)) ≡ true → goodState m ≡ true) ⌝ }
-    ensures { λ r. ⌜ r ≡ foundRefusal look past m released finished ⌝ }
+// The refusal of a tick by what the first pass found, where `named` has the tasks of both sets.
+pub(crate) fn refusal_of(look: Look, past: u64, cores: Cores, n: usize, named: u32) -> Refusal
+    requires { ⌜ (foundGood look past (cores .0) ≡ true → n ≤ mostTasks) ⌝ }
+    ensures { λ r. ⌜ r ≡ foundRefusal look past (cores .0) n named ⌝ }
 {
-    if !look.finds_good(past, m.table.platform.cores) {
+    if !look.finds_good(past, cores) {
         return refusal(14, 0);
     }
-    if look.clear {
-        return refusal(0, 0);
+    let nine = first_above(named, n);
+    if nine != 0 {
+        return refusal(9, nine);
     }
-    tick_refused(m, released, finished)
+    let refused = look.refused;
+    refused
 }

@@ -46,19 +46,11 @@ pub struct Ticked {
     pub answer: Answer,
 }
 
-// The lowest task of which refusals 10 to 13 are given, or 0.
-struct Given {
-    ten: usize,
-    eleven: usize,
-    twelve: usize,
-    thirteen: usize,
-}
-
-// What a tick's first pass found so far: the state is good, and refusals 9 to 13 are not given; how many jobs run and what they hold,
-// and how many of them go on running after step 2, and what those hold.
+// What a tick's first pass found so far: the state is good; the first of refusals 10 to 13; how many jobs run and what they hold, and
+// how many of them go on running after step 2, and what those hold.
 struct Look {
     good: bool,
-    clear: bool,
+    refused: Refusal,
     running: u32,
     held: u64,
     stays: u32,

@@ -186,6 +186,9 @@ impl Walk {
         requires { ⌜ (self .running < mostTasks + mostTasks) × (j .ran ≤ longestPeriod) × (j .age ≤ longestPeriod) ⌝ }
         ensures { λ r. ⌜ r ≡ walkWith k (cores .0) task j released finished self ⌝ }
     {
+        if j.is_left(released | finished, k) {
+            return self.by(self.goes, older_job(task, j), self.late);
+        }
         let ended = finished_job(task, j, sets::has_task(finished, k));
         let late = late_with(k, task, j.age, ended, self.late);
         let ready = released_job(ended, sets::has_task(released, k));

@@ -1,17 +1,13 @@
 // Refusals 9 to 13 of a tick.
 ghost use mathlib.Core.Path.{_≡_};
-ghost use mathlib.Core.Bool.{true, cond, not, _&&_};
+ghost use mathlib.Core.Bool.{_&&_};
 ghost use Prim.Native.Nat.{_^_, _<_, _≤_};
 ghost use lib.Dec.{ltb};
-ghost use Rattle.maths.specs.Tasks.{lowest, orElse};
+ghost use Rattle.maths.specs.Tasks.{lowest};
 ghost use Rattle.table.specs.Limits.{mostTasks, longestPeriod};
 ghost use Rattle.sets.specs.TaskSets.{hasTask};
-ghost use Rattle.machine.specs.Conditions.{goodState};
-ghost use Rattle.machine.specs.Passes.{given10, given11, given12, given13, givenOne, givenWith, givenTo, refuses, givenRefusal};
-ghost use Rattle.machine.specs.Tick.{tickRules, firstGiven};
-use crate::Given;
+ghost use Rattle.machine.specs.Passes.{given10, given11, given12, given13, givenNumber, refuses, firstOf};
 use crate::Job;
-use crate::Machine;
 use crate::moving::older_age;
 use table::Refusal;
 use table::Table;
@@ -67,25 +63,28 @@ fn given_13(task: Task, j: Job, released: bool, finished: bool) -> bool
     !s.is_idle()
 }
 
-// None of refusals 10 to 13 is given of the task.
-pub(crate) fn none_given(task: Task, j: Job, released: bool, finished: bool) -> bool
+// The first of refusals 10 to 13 that is given of the task, or 0.
+pub(crate) fn number_of(task: Task, j: Job, released: bool, finished: bool) -> u32
     requires { ⌜ j .ran ≤ longestPeriod ⌝ }
-    ensures { λ r. ⌜ r ≡ not (givenOne task j released finished) ⌝ }
+    ensures { λ r. ⌜ r ≡ givenNumber task j released finished ⌝ }
 {
     if given_10(j, finished) {
-        return false;
+        return 10;
     }
     if given_11(task, j, finished) {
-        return false;
+        return 11;
     }
     if given_12(task, j, released) {
-        return false;
+        return 12;
     }
-    !given_13(task, j, released, finished)
+    if given_13(task, j, released, finished) {
+        return 13;
+    }
+    0
 }
 
 // The set names no task above n.
-pub(crate) fn none_above(x: u32, n: usize) -> bool
+fn none_above(x: u32, n: usize) -> bool
     ensures { λ r. ⌜ r ≡ ltb x (2 ^ n) ⌝ }
 {
     if n < Table::MOST {
@@ -95,10 +94,13 @@ pub(crate) fn none_above(x: u32, n: usize) -> bool
 }
 
 // The lowest task above n in the set, or 0.
-fn first_above(x: u32, n: usize) -> usize
+pub(crate) fn first_above(x: u32, n: usize) -> usize
     requires { ⌜ n ≤ mostTasks ⌝ }
     ensures { λ r. ⌜ r ≡ lowest mostTasks (λ k. ltb n k && hasTask x k) ⌝ }
 {
+    if none_above(x, n) {
+        return 0;
+    }
     let mut k = n;
     while k < Table::MOST {
         if sets::has_task(x, k + 1) {
@@ -107,16 +109,6 @@ fn first_above(x: u32, n: usize) -> usize
         k += 1;
     }
     0
-}
-
-// The lowest task so far, or task k where there is none and it is given of that.
-fn first(lower: usize, k: usize, given: bool) -> usize
-    ensures { λ r. ⌜ r ≡ orElse lower (cond given k 0) ⌝ }
-{
-    if 0 < lower {
-        return lower;
-    }
-    if given { k } else { 0 }
 }
 
 pub(crate) fn refusal(number: u32, row: usize) -> Refusal
@@ -128,72 +120,18 @@ pub(crate) fn refusal(number: u32, row: usize) -> Refusal
     }
 }
 
-impl Given {
-    // Task k more.
-    fn with(self, k: usize, task: Task, j: Job, released: u32, finished: u32) -> Given
-        requires { ⌜ j .ran ≤ longestPeriod ⌝ }
-        ensures { λ r. ⌜ r ≡ givenWith k task j released finished self ⌝ }
-    {
-        let r = sets::has_task(released, k);
-        let f = sets::has_task(finished, k);
-        Given {
-            ten: first(self.ten, k, given_10(j, f)),
-            eleven: first(self.eleven, k, given_11(task, j, f)),
-            twelve: first(self.twelve, k, given_12(task, j, r)),
-            thirteen: first(self.thirteen, k, given_13(task, j, r, f)),
-        }
-    }
-
-    // The first that is given, in the order of document 01.
-    fn refusal(self, nine: usize) -> Refusal
-        ensures { λ r. ⌜ r ≡ givenRefusal nine self ⌝ }
-    {
-        if nine != 0 {
-            return refusal(9, nine);
-        }
-        if self.ten != 0 {
-            return refusal(10, self.ten);
-        }
-        if self.eleven != 0 {
-            return refusal(11, self.eleven);
-        }
-        if self.twelve != 0 {
-            return refusal(12, self.twelve);
-        }
-        if self.thirteen != 0 {
-            return refusal(13, self.thirteen);
-        }
-        refusal(0, 0)
-    }
-}
-
-// Refusals 10 to 13 over tasks 1 to n.
-fn first_given(m: Machine, released: u32, finished: u32) -> Given
-    requires { ⌜ goodState m ≡ true ⌝ }
-    ensures { λ r. ⌜ r ≡ givenTo m released finished (m .table .n) ⌝ }
+// Refusal `number` of task k, if it is not 0, after what was found of the tasks before: the lower number goes first.
+pub(crate) fn first_of(r: Refusal, number: u32, k: usize) -> Refusal
+    ensures { λ x. ⌜ x ≡ firstOf r number k ⌝ }
 {
-    let t = m.table;
-    let n = t.n;
-    let mut given = Given {
-        ten: 0,
-        eleven: 0,
-        twelve: 0,
-        thirteen: 0,
-    };
-    let mut k: usize = 0;
-    while k < n {
-        given = given.with(k + 1, t.rows[k], m.jobs[k], released, finished);
-        k += 1;
+    if number == 0 {
+        return r;
     }
-    given
-}
-
-// The first of refusals 9 to 13.
-pub(crate) fn tick_refused(m: Machine, released: u32, finished: u32) -> Refusal
-    requires { ⌜ goodState m ≡ true ⌝ }
-    ensures { λ r. ⌜ r ≡ firstGiven (tickRules m released finished) ⌝ }
-{
-    let nine = first_above(released | finished, m.table.n);
-    let given = first_given(m, released, finished);
-    given.refusal(nine)
+    if r.number == 0 {
+        return refusal(number, k);
+    }
+    if r.number <= number {
+        return r;
+    }
+    refusal(number, k)
 }

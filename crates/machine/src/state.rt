@@ -11,6 +11,7 @@ ghost use Rattle.sets.specs.Families.{allApart};
 ghost use Rattle.machine.specs.Jobs.{isIdle, isWaiting, isRunning, noJob, job, running};
 ghost use Rattle.machine.specs.Fresh.{trimmed, fresh, setUp};
 ghost use Rattle.machine.specs.Conditions.{isNoTask, isNoJob, hasNothing, goodStage, goodJob, goodState};
+ghost use Rattle.machine.specs.Passes.{isLeft};
 use crate::Job;
 use crate::Machine;
 use crate::SetUp;
@@ -100,6 +101,17 @@ impl Job {
             return false;
         }
         self.held == 0
+    }
+
+    // Task k idles and is not in the set: a tick that names only the tasks of the set adds 1 to its age, and changes nothing else.
+    pub(crate) fn is_left(self, x: u32, k: usize) -> bool
+        ensures { λ r. ⌜ r ≡ isLeft self x k ⌝ }
+    {
+        let s = self.stage;
+        if !s.is_idle() {
+            return false;
+        }
+        !sets::has_task(x, k)
     }
 
     // It holds no partition and has run 0, as is asked of a waiting job.

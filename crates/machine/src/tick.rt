@@ -35,7 +35,7 @@ impl Machine {
         let t = self.table;
         let mut jobs = self.jobs;
         let n = entries(t.n);
-        let mut look = Look::start(t, released, finished);
+        let mut look = Look::start(t);
         let mut k: usize = 0;
         while k < n {
             look = look.with(
@@ -53,7 +53,7 @@ impl Machine {
             past = past | marks(t.rows[k], jobs[k]);
             k += 1;
         }
-        let refused = refusal_of(look, past, self, released, finished);
+        let refused = refusal_of(look, past, t.platform.cores, t.n, released | finished);
         let moved = accepted_tasks(refused, n);
         let mut walk = Walk::start(t.platform.partitions, look);
         let mut i: usize = 0;

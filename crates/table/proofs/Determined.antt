@@ -7,7 +7,7 @@ use Rattle.table.specs.declared.Task.{Task}
 use Rattle.table.specs.declared.Table.{Table}
 use Rattle.table.specs.declared.Refusal.{Refusal}
 use Rattle.table.specs.Tasks.{noTask, emptyTable}
-use Rattle.table.specs.Refused.{refusal}
+use Rattle.table.specs.Refused.{sizesRefusal, refusal}
 
 pub none-determined : (r s : Task) → r ≡ noTask → s ≡ noTask → r ≡ s
 none-determined = determined noTask
@@ -17,3 +17,6 @@ empty-determined p = determined (emptyTable p)
 
 pub refused-determined : (t : Table) (r s : Refusal) → r ≡ refusal t → s ≡ refusal t → r ≡ s
 refused-determined t = determined (refusal t)
+
+pub sizes-determined : (t : Table) (r s : ℕ) → r ≡ sizesRefusal t → s ≡ sizesRefusal t → r ≡ s
+sizes-determined t = determined (sizesRefusal t)

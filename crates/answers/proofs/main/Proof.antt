@@ -3,10 +3,10 @@ use Rattle.answers.proofs.main.Statement.{statement}
 use Rattle.answers.proofs.main.Tie as tie
 
 abbrev Inv-loop : tie.InvT-loop
-Inv-loop step₀ room₀ second₀ turns₀ step room second turns = Unit {0}
+Inv-loop step₀ first₀ second₀ third₀ out₀ turns₀ step first second third out turns = Unit {0}
 
 abbrev μ-loop : tie.MeasureT-loop
-μ-loop step₀ room₀ second₀ turns₀ step room second turns = turns
+μ-loop step₀ first₀ second₀ third₀ out₀ turns₀ step first second third out turns = turns
 
 nothing-requires : tie.Need-nothing-requires Inv-loop μ-loop
 nothing-requires c κs = search needs

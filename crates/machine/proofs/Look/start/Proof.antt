@@ -5,11 +5,11 @@ use Rattle.machine.proofs.Look.start.Tie as tie
 sizes-refused-requires : tie.Need-sizes-refused-requires
 sizes-refused-requires c κs = search needs
 
-none-above-requires : tie.Need-none-above-requires
-none-above-requires c κs = search needs
+refusal-requires : tie.Need-refusal-requires
+refusal-requires c κs = search needs
 
 returns : tie.Need-returns
-returns c = rw (c .before .sizes-refused .ensures, c .none-above .ensures)
+returns c = rw (c .before .sizes-refused .ensures, c .refusal .ensures)
 
 pub start-spec : {M : Type 1} → statement M
-start-spec = tie.close (tie.spec sizes-refused-requires none-above-requires returns)
+start-spec = tie.close (tie.spec sizes-refused-requires refusal-requires returns)

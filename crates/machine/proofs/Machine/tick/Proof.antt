@@ -4,22 +4,22 @@ use lib.ListN.{length}
 use Rattle.maths.proofs.Lists.{len-mapped}
 use Rattle.table.specs.Limits.{mostTasks}
 use Rattle.machine.proofs.TickCode.{machineOf}
-use Rattle.machine.proofs.TickLoops.{Judging, judging-none, judging-turn, judging-more, Ending, ending-none, ending-more, ending-good, Moving, moving-none, moving-turn, moving-more, moving-ends}
+use Rattle.machine.proofs.TickLoops.{Judging, judging-none, judging-turn, judging-more, Ending, ending-none, ending-more, ending-few, Moving, moving-none, moving-turn, moving-more, moving-ends}
 use borrow.Author.Needs.{needs}
 use Rattle.machine.proofs.Machine.tick.Statement.{statement}
 use Rattle.machine.proofs.Machine.tick.Tie as tie
 
 abbrev Inv-loop : tie.InvT-loop
-Inv-loop self released finished t jobs n look₀ k₀ look k = Judging self released finished n k look
+Inv-loop released finished t jobs n look₀ k₀ look k = Judging (machineOf t jobs) released finished n k look
 
 abbrev μ-loop : tie.MeasureT-loop
-μ-loop self released finished t jobs n look₀ k₀ look k = n - k
+μ-loop released finished t jobs n look₀ k₀ look k = n - k
 
 abbrev Inv-loop2 : tie.InvT-loop2
-Inv-loop2 self released finished t jobs n look k₀ past₀ k past = Ending self released finished n k look past
+Inv-loop2 released finished t jobs n look k₀ past₀ k past = Ending (machineOf t jobs) released finished n k look past
 
 abbrev μ-loop2 : tie.MeasureT-loop2
-μ-loop2 self released finished t jobs n look k₀ past₀ k past = mostTasks - k
+μ-loop2 released finished t jobs n look k₀ past₀ k past = mostTasks - k
 
 abbrev Inv-loop3 : tie.InvT-loop3
 Inv-loop3 released finished t jobs₀ n k past refused moved walk₀ i₀ jobs walk i = Moving (machineOf t jobs₀) released finished refused moved jobs walk i
@@ -104,8 +104,8 @@ loop2-again c =
 
 refusal-of-requires : tie.Need-refusal-of-requires Inv-loop μ-loop Inv-loop2 μ-loop2 Inv-loop3 μ-loop3
 refusal-of-requires c κs =
-    let e = c .before in
-    ending-good _ _ _ (rows-32 (e .before .before .before .before .before .before .before)) _ _ _ _ (e .loop2 .inv) (search needs)
+    let e = c .before .before in
+    ending-few _ _ _ (rows-32 (e .before .before .before .before .before .before .before)) _ _ _ _ (e .loop2 .inv) (search needs)
 
 accepted-tasks-requires : tie.Need-accepted-tasks-requires Inv-loop μ-loop Inv-loop2 μ-loop2 Inv-loop3 μ-loop3
 accepted-tasks-requires c κs = search needs
@@ -115,7 +115,7 @@ start-requires-2 c κs = search needs
 
 loop3-holds : tie.Need-loop3-holds Inv-loop μ-loop Inv-loop2 μ-loop2 Inv-loop3 μ-loop3
 loop3-holds c =
-    let e = c .before .before .before .before in
+    let e = c .before .before .before .before .before in
     let s = e .before .before .before .before .before .before .before .before in
     moving-none _ _ _ (rows-32 s) _ _ _ _ (e .before .loop2 .inv) (search needs) (jobs-32 s) _ _ _ (c .before .before .before .refusal-of .ensures) (c .before .before .accepted-tasks .ensures) (c .start2 .ensures)
 

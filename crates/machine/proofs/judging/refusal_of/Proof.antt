@@ -1,5 +1,5 @@
 use mathlib.Core.Path.{sym, _∙_}
-use borrow.Author.Tests.{not-true, not-false}
+use borrow.Author.Tests.{eq-eqb, ne-eqb, not-true, not-false}
 use Rattle.machine.specs.Passes.{foundRefusal}
 use borrow.Author.Needs.{needs}
 use Rattle.machine.proofs.judging.refusal_of.Statement.{statement}
@@ -15,25 +15,23 @@ returns : tie.Need-returns
 unfolding foundRefusal
 returns c = rw (sym (c .before .before .finds-good .ensures) ∙ not-true _ (c .before .if1 .taken)) (c .refusal .ensures)
 
+first-above-requires : tie.Need-first-above-requires
+first-above-requires c κs = c .before .before .pre (sym (c .before .finds-good .ensures) ∙ not-false _ (c .if1 .left))
+
 refusal-requires-2 : tie.Need-refusal-requires-2
 refusal-requires-2 c κs = search needs
 
 returns-2 : tie.Need-returns-2
 unfolding foundRefusal
 returns-2 c =
-    let e = c .before .before in
-    rw (sym (e .before .finds-good .ensures) ∙ not-false _ (e .if1 .left), c .before .if2 .taken) (c .refusal2 .ensures)
-
-tick-refused-requires : tie.Need-tick-refused-requires
-tick-refused-requires c κs =
-    let e = c .before in
-    e .before .before .pre (sym (e .before .finds-good .ensures) ∙ not-false _ (e .if1 .left))
+    let a = c .before .before in
+    rw (sym (a .before .before .finds-good .ensures) ∙ not-false _ (a .before .if1 .left), sym (a .first-above .ensures), ne-eqb _ _ (c .before .if2 .taken)) (c .refusal2 .ensures)
 
 returns-3 : tie.Need-returns-3
 unfolding foundRefusal
 returns-3 c =
-    let e = c .before .before in
-    rw (sym (e .before .finds-good .ensures) ∙ not-false _ (e .if1 .left), c .before .if2 .left) (c .tick-refused .ensures)
+    let a = c .before .before in
+    rw (sym (a .before .before .finds-good .ensures) ∙ not-false _ (a .before .if1 .left), sym (a .first-above .ensures), eq-eqb _ _ (c .before .if2 .left))
 
 pub refusal-of-spec : {M : Type 1} → statement M
 refusal-of-spec =
@@ -42,7 +40,7 @@ refusal-of-spec =
     finds-good-requires
     refusal-requires
     returns
+    first-above-requires
     refusal-requires-2
     returns-2
-    tick-refused-requires
     returns-3)

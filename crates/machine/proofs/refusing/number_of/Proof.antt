@@ -1,8 +1,7 @@
-use mathlib.Core.Path.{sym, _∙_, ap}
-use mathlib.Core.Bool.{not}
+use mathlib.Core.Path.{sym, _∙_}
 use borrow.Author.Needs.{needs}
-use Rattle.machine.proofs.refusing.none_given.Statement.{statement}
-use Rattle.machine.proofs.refusing.none_given.Tie as tie
+use Rattle.machine.proofs.refusing.number_of.Statement.{statement}
+use Rattle.machine.proofs.refusing.number_of.Tie as tie
 
 given-10-requires : tie.Need-given-10-requires
 given-10-requires c κs = search needs
@@ -32,15 +31,26 @@ given-13-requires c κs = search needs
 
 returns-4 : tie.Need-returns-4
 returns-4 c =
+    let l = c .before .before in
     rw (
-      sym (c .before .before .before .before .before .before .given-10 .ensures) ∙ c .before .before .before .before .before .if1 .left,
-      sym (c .before .before .before .before .given-11 .ensures) ∙ c .before .before .before .if2 .left,
-      sym (c .before .before .given-12 .ensures) ∙ c .before .if3 .left,
+      sym (l .before .before .before .before .before .given-10 .ensures) ∙ l .before .before .before .before .if1 .left,
+      sym (l .before .before .before .given-11 .ensures) ∙ l .before .before .if2 .left,
+      sym (l .before .given-12 .ensures) ∙ l .if3 .left,
+      sym (c .before .given-13 .ensures) ∙ c .if4 .taken,
     )
-    (ap not (c .given-13 .ensures))
 
-pub none-given-spec : {M : Type 1} → statement M
-none-given-spec =
+returns-5 : tie.Need-returns-5
+returns-5 c =
+    let l = c .before .before in
+    rw (
+      sym (l .before .before .before .before .before .given-10 .ensures) ∙ l .before .before .before .before .if1 .left,
+      sym (l .before .before .before .given-11 .ensures) ∙ l .before .before .if2 .left,
+      sym (l .before .given-12 .ensures) ∙ l .if3 .left,
+      sym (c .before .given-13 .ensures) ∙ c .if4 .left,
+    )
+
+pub number-of-spec : {M : Type 1} → statement M
+number-of-spec =
     tie.close
     (tie.spec
     given-10-requires
@@ -50,4 +60,5 @@ none-given-spec =
     given-12-requires
     returns-3
     given-13-requires
-    returns-4)
+    returns-4
+    returns-5)

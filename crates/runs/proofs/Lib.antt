@@ -1,4 +1,5 @@
 pub mod Runs
 pub mod Answers
 pub mod Determined
+pub mod Answered
 pub mod Widths

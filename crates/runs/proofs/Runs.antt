@@ -1,8 +1,8 @@
 -- Laws of a run on its way through a good ticks text, for the loops over its rows.
 use Prim.Native.Nat.{ℕ, suc, _<_, _≤_}
-use mathlib.Core.Path.{_≡_, refl, sym, ap, _∙_}
+use mathlib.Core.Path.{_≡_, sym, ap, _∙_}
 use mathlib.Core.Bool.{Bool, true, false, cond}
-use mathlib.Core.List.{List, [], _∷_, _++_, append-assoc}
+use mathlib.Core.List.{List, [], _++_, append-assoc}
 use native.Mathlib.Omega.{arith}
 use lib.Dec.{eqb}
 use lib.ListN.{length, take}
@@ -11,8 +11,8 @@ use Rattle.forms.specs.Forms.{crlf, line, lines}
 use Rattle.table.specs.declared.Refusal.{Refusal}
 use Rattle.machine.specs.declared.Machine.{Machine}
 use Rattle.readers.specs.declared.Tick.{Tick}
-use Rattle.readers.specs.Inputs.{tickOf, tickAt}
-use Rattle.readers.proofs.Ticks.{Rest, TickOn, ticks-start, ticks-next, ticks-end}
+use Rattle.readers.specs.Inputs.{tickAt}
+use Rattle.readers.proofs.Ticks.{Rest, ticks-start, ticks-next, ticks-end}
 use Rattle.writers.specs.Outputs.{listing}
 use Rattle.runs.specs.declared.Run.{Run}
 use Rattle.runs.specs.Ticks.{tickWith, runRow, counted, runRows, runText}

@@ -1,142 +1,25 @@
 -- A row of a listing has at most 106 bytes: five numbers of at most 20 digits, four commas and CR LF.
-use Prim.Native.Nat.{ℕ, zero, suc, _+_, _-_, _*_, _/_, _^_, _<_, _≤_}
-use mathlib.Core.Path.{_≡_, refl, sym, ap, _∙_}
+use Prim.Native.Nat.{ℕ, _+_, _-_, _*_, _/_, _<_, _≤_}
+use mathlib.Core.Path.{_≡_, refl, ap, _∙_}
 use mathlib.Core.Bool.{Bool, true, false, cond}
-use mathlib.Core.List.{List, [], _∷_, _++_}
-use native.Mathlib.Nat.{lt-of-lt-of-le, le-div-iff-mul-le, div-add-mod'}
+use mathlib.Core.List.{List, [], _∷_}
+use native.Mathlib.Nat.{le-div-iff-mul-le, div-add-mod'}
 use native.Mathlib.Omega.{arith}
-use borrow.Author.Tests.{eqb-true, eqb-false, leb-true, le-leb}
-use lib.Dec.{eqb, leb}
+use borrow.Author.Tests.{leb-true, le-leb}
+use lib.Dec.{leb}
 use lib.ListN.{length, getD, length-append}
-use lib.Pow.{pow-mono}
-use Rattle.maths.specs.Rules.{Rule}
-use Rattle.maths.specs.Tasks.{lowest}
-use Rattle.maths.proofs.Tests.{both, same-truth}
-use Rattle.forms.specs.Digits.{digits}
+use Rattle.maths.proofs.Tests.{same-truth}
 use Rattle.forms.specs.Forms.{Within, Each, none, also, columns, largest, ticksForm, line, lines}
 use Rattle.forms.proofs.Digits.{width-most}
 use Rattle.forms.proofs.Theorem.{written}
-use Rattle.table.specs.declared.Refusal.{Refusal}
-use Rattle.table.specs.declared.Table.{Table}
-use Rattle.table.specs.Limits.{mostTasks}
-use Rattle.table.specs.Refused.{refusal, sizesRefusal, rowsRefusal}
-use Rattle.table.proofs.Good.{good-sizes}
-use Rattle.sets.specs.Sets.{setWhere}
-use Rattle.sets.proofs.Wheres.{where-lt}
 use Rattle.machine.specs.declared.Machine.{Machine}
-use Rattle.machine.specs.declared.Ticked.{Ticked}
-use Rattle.machine.specs.Conditions.{goodState}
-use Rattle.machine.specs.Steps.{passed, finish, lateSet, firstWaiting, fits, start, startFirst, startWaiting}
-use Rattle.machine.specs.Tick.{tickRules, firstGiven, tickRefusal, readied, moved, startedSet, refusedAnswer, accepted, tick}
-use Rattle.machine.proofs.Jobs.{finished-table, readied-table}
-use Rattle.readers.specs.declared.Tick.{Tick}
 use Rattle.readers.specs.Inputs.{tickOf}
 use Rattle.writers.specs.declared.Room.{Room}
 use Rattle.writers.specs.Written.{roomFor}
-use Rattle.runs.specs.Ticks.{tickWith, runRow, counted, runRows, runText}
+use Rattle.runs.specs.Ticks.{tickWith, counted, runRows, runText}
 use Rattle.runs.specs.Runs.{ticksIn, GoodTicks, runStart}
 use Rattle.runs.proofs.Runs.{header, toCome, run-split, counted-most}
-
-abbrev big : ℕ
-big = 10 ^ 20
-
-few-tasks : (t : Table) → refusal t .number ≡ 0 → t .n ≤ mostTasks
-unfolding refusal
-few-tasks t e = by (eqb (sizesRefusal t) 0) refl e
-  where
-    by : (b : Bool) → eqb (sizesRefusal t) 0 ≡ b → cond b (rowsRefusal t) (record { number = sizesRefusal t; row = 0 }) .number ≡ 0 → t .n ≤ mostTasks
-    by true w e = good-sizes t (eqb-true (sizesRefusal t) 0 w) .few
-    by false w e = absurd (eqb-false (sizesRefusal t) 0 w e)
-
-waiting-table : (turns : ℕ) (m : Machine) → startWaiting turns m .table ≡ m .table
-unfolding startWaiting
-waiting-table zero m = refl
-waiting-table (suc turns) m = go (firstWaiting m) (waiting-table turns)
-  where
-    go : (k : ℕ) → ((x : Machine) → startWaiting turns x .table ≡ x .table) → startFirst (startWaiting turns) m k .table ≡ m .table
-    go zero same = refl
-    go (suc i) same = by (fits m (suc i))
-      where
-        by : (b : Bool) → cond b (startWaiting turns (start m i)) m .table ≡ m .table
-        by true = same (start m i)
-        by false = refl
-
-most : (b : Bool) (x y : Refusal) → x .number ≤ 14 → y .number ≤ 14 → cond b x y .number ≤ 14
-most true x y h g = h
-most false x y h g = g
-
-given-most : (r : Rule ℕ) (rs : List (Rule ℕ)) → r .number ≤ 14 → firstGiven rs .number ≤ 14 → firstGiven (r ∷ rs) .number ≤ 14
-unfolding firstGiven
-given-most r rs h g = most (eqb (lowest mostTasks (r .given)) 0) (firstGiven rs) (record { number = r .number; row = lowest mostTasks (r .given) }) g h
-
-none-given : firstGiven [] .number ≤ 14
-unfolding firstGiven
-none-given = omega arith
-
-number-most : (m : Machine) (released finished : ℕ) → tickRefusal m released finished .number ≤ 14
-unfolding tickRefusal tickRules
-number-most m released finished =
-    let nine : 9 ≤ 14 = omega arith in
-    let ten : 10 ≤ 14 = omega arith in
-    let eleven : 11 ≤ 14 = omega arith in
-    let twelve : 12 ≤ 14 = omega arith in
-    let thirteen : 13 ≤ 14 = omega arith in
-    most (goodState m) (firstGiven (tickRules m released finished)) (record { number = 14; row = 0 })
-    (given-most _ _ nine (given-most _ _ ten (given-most _ _ eleven (given-most _ _ twelve (given-most _ _ thirteen none-given)))))
-    (omega arith)
-
-pub record Small (t : Ticked) : Type 0 where
-  pub number : t .answer .refused .number < big
-  pub finished : t .answer .finished < big
-  pub late : t .answer .late < big
-  pub started : t .answer .started < big
-
-set-small : (f : ℕ → Bool) (n : ℕ) → n ≤ mostTasks → setWhere f n < big
-set-small f n h = let l = lt-of-lt-of-le (where-lt f n) (pow-mono {i = n} {j = 32} h) in omega arith
-
-accepted-good : (m : Machine) (released finished : ℕ) → accepted m released finished ≡ true → goodState m ≡ true
-unfolding tickRefusal
-accepted-good m released finished e = by (goodState m) (eqb-true _ 0 e)
-  where
-    by : (b : Bool) → cond b (firstGiven (tickRules m released finished)) (record { number = 14; row = 0 }) .number ≡ 0 → b ≡ true
-    by true e = refl
-    by false e = absurd (omega arith)
-
-good-few : (m : Machine) → goodState m ≡ true → m .table .n ≤ mostTasks
-unfolding goodState
-good-few m e = few-tasks (m .table) (eqb-true _ 0 (both _ _ (both _ _ (both _ _ (both _ _ e .0) .0) .0) .0))
-
-tick-small : (m : Machine) (k : Tick) → k .finished < big → Small (tickWith m k)
-unfolding tick
-tick-small m k h = by (accepted m (k .released) (k .finished)) refl
-  where
-    by : (b : Bool) → accepted m (k .released) (k .finished) ≡ b
-        → Small
-        (cond b
-        (record {
-          machine = moved m (k .released) (k .finished);
-          answer =
-              record {
-                refused = tickRefusal m (k .released) (k .finished);
-                finished = k .finished;
-                late = lateSet m (finish (k .finished) (passed m));
-                started = startedSet (readied m (k .released) (k .finished)) (moved m (k .released) (k .finished));
-              };
-        })
-        (record { machine = m; answer = refusedAnswer (tickRefusal m (k .released) (k .finished)) }))
-    by true e =
-        let few : m .table .n ≤ mostTasks = good-few m (accepted-good m (k .released) (k .finished) e) in
-        let number = number-most m (k .released) (k .finished) in
-        let same = ap (λ (t : Table). t .n) (waiting-table mostTasks (readied m (k .released) (k .finished)) ∙ readied-table m (k .released) (k .finished)) in
-        record {
-          number = omega arith;
-          finished = h;
-          late = set-small _ _ (rw (finished-table m (k .released) (k .finished)) few);
-          started = set-small _ _ (omega arith);
-        }
-    by false e =
-        let number = number-most m (k .released) (k .finished) in
-        record { number = omega arith; finished = omega arith; late = omega arith; started = omega arith }
+use Rattle.runs.proofs.Answered.{big, tick-small}
 
 row-most : (a b c d e : ℕ) → a < big → b < big → c < big → d < big → e < big → length (line (a ∷ b ∷ c ∷ d ∷ e ∷ [])) ≤ 106
 unfolding line

@@ -3,8 +3,6 @@ use Prim.Native.Nat.{_+_, _*_, _≤_}
 use mathlib.Core.Path.{_≡_, sym, _∙_}
 use native.Mathlib.Omega.{arith}
 use borrow.Author.Tests.{leb-true, le-leb}
-use lib.ListN.{length}
-use Rattle.runs.specs.Runs.{ticksIn}
 use Rattle.runs.proofs.Widths.{run-most, fits-by-room}
 use Rattle.runs.proofs.fits.Statement.{statement}
 use Rattle.runs.proofs.fits.Tie as tie

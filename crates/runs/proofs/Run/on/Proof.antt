@@ -1,5 +1,4 @@
 use borrow.Author.Needs.{needs}
-use mathlib.Core.Path.{_≡_, sym}
 use Rattle.runs.specs.Runs.{runOn}
 use Rattle.runs.proofs.Run.on.Statement.{statement}
 use Rattle.runs.proofs.Run.on.Tie as tie

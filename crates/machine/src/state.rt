@@ -51,14 +51,14 @@ impl Stage {
         }
     }
 
-    // 0 for an idle job.
+    // 0 for an idle job only: the byte of a stage, as it stands in memory.
     pub(crate) fn mark(self) -> u32
-        ensures { λ r. ⌜ r ≡ cond (isIdle self) 0 1 ⌝ }
+        ensures { λ r. ⌜ r ≡ cond (isIdle self) 0 (cond (isWaiting self) 1 2) ⌝ }
     {
         match self {
             Stage::Idle => 0,
             Stage::Waiting => 1,
-            Stage::Running => 1,
+            Stage::Running => 2,
         }
     }
 

@@ -1,5 +1,5 @@
 // Times the proved functions beside the plain C version, both called from here and in turn. Given any word, it runs a few rounds of each
-// instead, between system calls that mark them, for a count of their instructions.
+// instead, between system calls that mark them, for a count of their instructions; given the number of a case too, those of that case only.
 #include "rounds.h"
 #include "texts.c"
 
@@ -28,7 +28,7 @@ struct input {
 };
 
 static input cases[MOST_CASES];
-static int case_count;
+static int case_count, only; // only: the number of the one case to count, or 0
 
 static i64 now(void) {
     struct when w;
@@ -111,6 +111,8 @@ static input *add(const char *what, u32 tasks, const char *how, rounds *proved, 
     return x;
 }
 
+static int left_out(int number) { return only && only != number; }
+
 // A table of n tasks that is admitted; or, with a slack of 0 for the first task, one that fails there.
 static void admission_words(input *x, u32 n, int fails) {
     u32 *w = x->words;
@@ -132,6 +134,7 @@ static void admission_words(input *x, u32 n, int fails) {
 static int admission_case(int is_quick, u32 n, int fails) {
     const char *what = is_quick ? "quick answer" : "full answer", *how = fails ? "first task fails" : "admitted";
     input *x = add(what, n, how, is_quick ? proved_quick : proved_full, is_quick ? c_quick : c_full);
+    if (left_out(case_count)) return 0;
     admission_words(x, n, fails);
     table t = table_of(x->words, WORDS);
     quick a;
@@ -154,6 +157,7 @@ static int tick_case(const char *how, u32 n, u32 cores, u32 a, u32 period, u32 r
     input *x = add("tick", n, how, proved_ticks, c_ticks);
     u32 *w = x->words, refused = 0;
     x->lot = 64;
+    if (left_out(case_count)) return 0;
     w[0] = n;
     w[1] = cores;
     w[2] = 64;
@@ -256,8 +260,9 @@ static int text_cases(void) {
 }
 
 int main(int count, char **words) {
-    (void)words;
+    for (const char *digit = count > 2 ? words[2] : ""; *digit; digit++) only = 10 * only + (*digit - '0');
     int bad = admission_cases() + tick_cases() + text_cases();
-    for (int i = 0; i < case_count; i++) bad += count > 1 ? counted(&cases[i]) : timed(&cases[i]);
+    for (int i = 0; i < case_count; i++)
+        if (!left_out(i + 1)) bad += count > 1 ? counted(&cases[i]) : timed(&cases[i]);
     return bad != 0;
 }

@@ -18,3 +18,4 @@ pub mod TickWalk
 pub mod TickSteps
 pub mod TickCode
 pub mod TickLoops
+pub mod Determined

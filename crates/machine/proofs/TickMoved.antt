@@ -6,8 +6,9 @@ use native.Mathlib.Omega.{arith}
 use lib.ListN.{length}
 use Rattle.maths.proofs.Tasks.{lowest-empty}
 use Rattle.maths.proofs.Tests.{both}
-use Rattle.table.specs.Limits.{mostTasks}
+use Rattle.table.specs.Limits.{mostTasks, mostPartitions}
 use Rattle.table.specs.Tasks.{M, τ}
+use Rattle.sets.specs.Sets.{size}
 use Rattle.sets.proofs.Wheres.{where-same}
 use Rattle.machine.specs.declared.Machine.{Machine}
 use Rattle.machine.specs.declared.Walk.{Walk}
@@ -30,13 +31,14 @@ pub record Pass (r : Machine) (w : ℕ → Walk) (late : ℕ → ℕ) : Type 0 w
   pub goes : w 0 .goes ≡ true
   pub count : w 0 .running ≡ running r
   pub idle : w 0 .idle ≡ idlePartitions r
+  pub room : w 0 .room ≡ size mostPartitions (w 0 .idle)
   pub none : w 0 .started ≡ 0
   pub free : (i : ℕ) → i < r .table .n → waits r (suc i) ≡ true → job r (suc i) .held ≡ 0
   pub turn : (i : ℕ) → i < r .table .n → w (suc i) ≡ walkBegin (suc i) (M (r .table)) (τ (r .table) (suc i)) (job r (suc i)) (late i) (w i)
 
 module _ (r : Machine) (w : ℕ → Walk) (late : ℕ → ℕ) (p : Pass r w late) where
   at : (i : ℕ) → i ≤ r .table .n → At r w late i
-  at zero l = at-none r w late (p .entries) (p .goes) (p .count) (p .idle) (p .none)
+  at zero l = at-none r w late (p .entries) (p .goes) (p .count) (p .idle) (p .room) (p .none)
   at (suc i) l = by (tries (job r (suc i)) (w i)) refl (hasRoom (M (r .table)) (τ (r .table) (suc i)) (w i)) refl (at i (omega arith)) (p .turn i l)
     where
       by : (a : Bool) → tries (job r (suc i)) (w i) ≡ a → (b : Bool) → hasRoom (M (r .table)) (τ (r .table) (suc i)) (w i) ≡ b → At r w late i

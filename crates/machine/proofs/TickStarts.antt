@@ -5,13 +5,19 @@ use mathlib.Core.Bool.{Bool, true, false, cond, _&&_, true≢false}
 use native.Mathlib.Nat.{not-suc-le-zero}
 use native.Mathlib.Numerals.{add-one}
 use native.Mathlib.Omega.{arith}
+use borrow.Author.Tests.{leb-true}
+use lib.Dec.{ltb, leb}
 use lib.ListN.{length}
 use Rattle.maths.specs.Tasks.{lowest}
 use Rattle.maths.proofs.Tests.{both}
 use Rattle.maths.proofs.Tasks.{lowest-empty, lowest-found, lowest-stays}
-use Rattle.table.specs.Limits.{mostTasks}
-use Rattle.table.specs.Tasks.{M, τ}
+use Rattle.table.specs.Limits.{mostTasks, mostPartitions}
+use Rattle.table.specs.Tasks.{M, τ, A}
+use Rattle.sets.specs.Sets.{size, without}
 use Rattle.sets.specs.TaskSets.{tasksWhere}
+use Rattle.sets.specs.Choice.{choice}
+use Rattle.sets.proofs.Sizes.{size-without}
+use Rattle.sets.proofs.Choices.{choice-within, choice-size}
 use Rattle.sets.proofs.Wheres.{where-none, tasks-or, tasks-out}
 use Rattle.machine.specs.declared.Machine.{Machine}
 use Rattle.machine.specs.declared.Walk.{Walk}
@@ -32,10 +38,12 @@ module _ (r : Machine) (w : ℕ → Walk) (late : ℕ → ℕ) where
     pub calm : w i .goes ≡ true → (j : ℕ) → j < i → waits (walked r w i) (suc j) ≡ false
     pub count : w i .running ≡ running (walked r w i)
     pub idle : w i .idle ≡ idlePartitions (walked r w i)
+    pub room : w i .room ≡ size mostPartitions (w i .idle)
     pub begun : w i .started ≡ tasksWhere starts i
 
-  pub at-none : length (r .jobs) ≡ mostTasks → w 0 .goes ≡ true → w 0 .running ≡ running r → w 0 .idle ≡ idlePartitions r → w 0 .started ≡ 0 → At 0
-  at-none len goes count idle none =
+  pub at-none : length (r .jobs) ≡ mostTasks → w 0 .goes ≡ true → w 0 .running ≡ running r → w 0 .idle ≡ idlePartitions r
+      → w 0 .room ≡ size mostPartitions (w 0 .idle) → w 0 .started ≡ 0 → At 0
+  at-none len goes count idle room none =
       let here = walked-none r w len in
       record {
         fuel = mostTasks;
@@ -44,6 +52,7 @@ module _ (r : Machine) (w : ℕ → Walk) (late : ℕ → ℕ) where
         calm = λ g j l. absurd (not-suc-le-zero l);
         count = rw here count;
         idle = rw here idle;
+        room = room;
         begun = none ∙ sym (where-none (λ j. starts (suc j)));
       }
 
@@ -75,6 +84,7 @@ module _ (r : Machine) (w : ℕ → Walk) (late : ℕ → ℕ) where
                 (below-suc (λ j. waits (walked r w i) (suc j) ≡ false) i (a .calm goes) (rw here (rw goes at no)));
             count = ap (λ (x : Walk). x .running) e ∙ (a .count ∙ rw by);
             idle = ap (λ (x : Walk). x .idle) e ∙ (a .idle ∙ rw by);
+            room = rw e (a .room);
             begun = not-started (ap (λ (x : Walk). x .job) e) (ap (λ (x : Walk). x .started) e);
           }
 
@@ -93,7 +103,7 @@ module _ (r : Machine) (w : ℕ → Walk) (late : ℕ → ℕ) where
           lowest-stays (waits (walked r w i)) (i + 1) (r .table .n) i (omega arith) (found ∙ add-one i)
 
       room : fits (walked r w i) (suc i) ≡ hasRoom (M (r .table)) (τ (r .table) (suc i)) (w i)
-      room = rw (← a .count, ← a .idle)
+      room = rw (← a .count, ← a .idle, ← a .room)
 
       turn : (left : ℕ) → a .fuel ≡ suc left
           → startWaiting mostTasks r ≡ cond (hasRoom (M (r .table)) (τ (r .table) (suc i)) (w i)) (startWaiting left (start (walked r w i) i)) (walked r w i)
@@ -120,10 +130,19 @@ module _ (r : Machine) (w : ℕ → Walk) (late : ℕ → ℕ) where
               calm = λ g. absurd (true≢false (sym g ∙ ap (λ (x : Walk). x .goes) e));
               count = ap (λ (x : Walk). x .running) e ∙ (a .count ∙ rw by);
               idle = ap (λ (x : Walk). x .idle) e ∙ (a .idle ∙ rw by);
+              room = rw e (a .room);
               begun = not-started (ap (λ (x : Walk). x .job) e) (ap (λ (x : Walk). x .started) e);
             }
 
-      -- it starts
+      -- it starts, and takes A partitions
+      room-go : leb (A (τ (r .table) (suc i))) (w i .room) ≡ true
+          → w i .room - A (τ (r .table) (suc i)) ≡ size mostPartitions (without (w i .idle) (choice (w i .idle) (A (τ (r .table) (suc i)))))
+      room-go fit =
+          let idle = w i .idle in
+          let least = A (τ (r .table) (suc i)) in
+          let enough : least ≤ size 64 idle = omega (arith, a .room, leb-true least (w i .room) fit) in
+          omega (arith, a .room, choice-size idle least enough, size-without 64 idle (choice idle least) (choice-within idle least))
+
       module _ (e : w (suc i) ≡ walkGo (suc i) (τ (r .table) (suc i)) (job r (suc i)) (late i) (w i))
           (fit : hasRoom (M (r .table)) (τ (r .table) (suc i)) (w i) ≡ true) (free : job r (suc i) .held ≡ 0) where
         pub at-go : At (suc i)
@@ -140,6 +159,7 @@ module _ (r : Machine) (w : ℕ → Walk) (late : ℕ → ℕ) where
                   (rw (walked-done r w (suc i) i (omega arith) l, new));
               count = ap (λ (x : Walk). x .running) e ∙ rw (a .count) (sym (running-go r w i l new (a .idle) few in-n waiting));
               idle = ap (λ (x : Walk). x .idle) e ∙ idle-go r w i l new (a .idle) few in-n waiting free;
+              room = rw e (room-go (both (ltb (w i .running) (M (r .table))) _ fit .1));
               begun =
                   let now : starts (i + 1) ≡ true = rw add-one (rw (waiting, new)) in
                   ap (λ (x : Walk). x .started) e ∙ rw (a .begun, ← add-one i) (tasks-or starts i l now);

@@ -50,6 +50,7 @@ module _ (m : Machine) (released finished : ℕ) (a : Accepts m released finishe
         goes = ap (λ (x : Walk). x .goes) starts-so;
         count = ap (λ (x : Walk). x .running) starts-so ∙ (seen .running ∙ ready-running m released finished a);
         idle = ap (λ (x : Walk). x .idle) starts-so ∙ idle-so;
+        room = rw starts-so;
         none = ap (λ (x : Walk). x .started) starts-so;
         free = ready-waits m released finished a;
         turn = λ i h. walk-turn m released finished first i ∙ rw (ready-job m released finished a i h);

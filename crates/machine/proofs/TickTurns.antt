@@ -21,7 +21,7 @@ use Rattle.machine.specs.declared.Stage.the-variants.{Idle, Waiting, Run
 use Rattle.machine.specs.declared.Job.{Job}
 use Rattle.machine.specs.declared.Look.{Look}
 use Rattle.machine.specs.declared.Machine.{Machine}
-use Rattle.machine.specs.Jobs.{isIdle, isRunning, job}
+use Rattle.machine.specs.Jobs.{isIdle, isWaiting, isRunning, job}
 use Rattle.machine.specs.Conditions.{isNoTask, isNoJob, goodStage, goodJob}
 use Rattle.machine.specs.Passes.{admits}
 use Rattle.machine.proofs.StateParts.{ByStage, GoodState}
@@ -62,14 +62,14 @@ none-from x n =
           (ne-eqb (x / 2 ^ n) 0 (λ z. h (omega (arith, div-lt-iff-lt-mul {k = 2 ^ n} {x = x} {y = 1} (pow-pos n) .0 (omega arith)))))
     ]
 
-mark-none : (s : Stage) → eqb (cond (isIdle s) 0 1) 0 ≡ isIdle s
+mark-none : (s : Stage) → eqb (cond (isIdle s) 0 (cond (isWaiting s) 1 2)) 0 ≡ isIdle s
 mark-none Idle = refl
 mark-none Waiting = refl
 mark-none Running = refl
 
 -- the marks of an entry
 pub marks-none : (τ : Task) (j : Job)
-    → eqb (bitOr (bitOr (bitOr (bitOr (bitOr (D τ) (T τ)) (C τ)) (A τ)) (bitOr (bitOr (cond (isIdle (j .stage)) 0 1) (j .age)) (j .ran))) (j .held)) 0
+    → eqb (bitOr (bitOr (bitOr (bitOr (bitOr (D τ) (T τ)) (C τ)) (A τ)) (bitOr (bitOr (cond (isIdle (j .stage)) 0 (cond (isWaiting (j .stage)) 1 2)) (j .age)) (j .ran))) (j .held)) 0
     ≡ (isNoTask τ && isNoJob j)
 marks-none τ j = simp (or-none, mark-none) (and-assoc (isNoTask τ) (isIdle (j .stage) && eqb (j .age) 0 && eqb (j .ran) 0) (eqb (j .held) 0))
 

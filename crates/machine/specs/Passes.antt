@@ -1,6 +1,6 @@
 -- What the code of a tick does with one task, in its first pass, which judges, and in its second, which moves. No statement rests on
 -- these definitions: they cut the proof that the passes come to `tick` into the parts that the source has.
-use Prim.Native.Nat.{ℕ, _+_, min}
+use Prim.Native.Nat.{ℕ, _+_, _-_, min}
 use mathlib.Core.Bool.{Bool, true, false, cond, not, _&&_}
 use lib.Bits.{bitOr}
 use lib.Dec.{ltb, leb, eqb}
@@ -102,7 +102,15 @@ foundRefusal l past m n named =
 -- the second pass: what it starts from, and one task more
 abbrev pub walkStart : ℕ → Look → Walk
 walkStart p l =
-    record { job = noJob; goes = true; running = l .stays; idle = without (below (min p 64)) (l .busy); late = 0; started = 0 }
+    record {
+      job = noJob;
+      goes = true;
+      running = l .stays;
+      idle = without (below (min p 64)) (l .busy);
+      room = size mostPartitions (without (below (min p 64)) (l .busy));
+      late = 0;
+      started = 0;
+    }
 
 abbrev pub isLate : Task → ℕ → Job → Bool
 isLate τ before j = not (isIdle (j .stage)) && eqb (before + 1) (D τ) && eqb (j .age) (D τ)
@@ -112,7 +120,7 @@ abbrev pub tries : Job → Walk → Bool
 tries j w = w .goes && isWaiting (j .stage)
 
 abbrev pub hasRoom : ℕ → Task → Walk → Bool
-hasRoom m τ w = ltb (w .running) m && leb (A τ) (size mostPartitions (w .idle))
+hasRoom m τ w = ltb (w .running) m && leb (A τ) (w .room)
 
 -- the task of job j starts, or step 5 ends with it, or it is not its turn
 abbrev pub walkGo : ℕ → Task → Job → ℕ → Walk → Walk
@@ -122,13 +130,14 @@ walkGo k τ j late w =
       goes = true;
       running = w .running + 1;
       idle = without (w .idle) (choice (w .idle) (A τ));
+      room = w .room - A τ;
       late = late;
       started = bitOr (w .started) (taskBit k);
     }
 
 abbrev pub walkBy : Bool → Job → ℕ → Walk → Walk
 walkBy goes j late w =
-    record { job = j; goes = goes; running = w .running; idle = w .idle; late = late; started = w .started }
+    record { job = j; goes = goes; running = w .running; idle = w .idle; room = w .room; late = late; started = w .started }
 
 abbrev pub walkBegin : ℕ → ℕ → Task → Job → ℕ → Walk → Walk
 walkBegin k m τ j late w = cond (tries j w) (cond (hasRoom m τ w) (walkGo k τ j late w) (walkBy false j late w)) (walkBy (w .goes) j late w)

@@ -57,13 +57,14 @@ struct Look {
     busy: u64,
 }
 
-// What a tick's second pass made so far: the job that it came to last; whether step 5 goes on, with how many running jobs and which
-// idle partitions; and the sets to answer.
+// What a tick's second pass made so far: the job that it came to last; whether step 5 goes on, with how many running jobs, which
+// idle partitions and how many; and the sets to answer.
 struct Walk {
     job: Job,
     goes: bool,
     running: u32,
     idle: u64,
+    room: u32,
     late: u32,
     started: u32,
 }

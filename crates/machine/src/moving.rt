@@ -94,11 +94,13 @@ impl Walk {
     pub(crate) fn start(p: Partitions, look: Look) -> Walk
         ensures { λ r. ⌜ r ≡ walkStart (p .0) look ⌝ }
     {
+        let idle = sets::without(sets::below(p.0), look.busy);
         Walk {
             job: Job::none(),
             goes: true,
             running: look.stays,
-            idle: sets::without(sets::below(p.0), look.busy),
+            idle: idle,
+            room: sets::size(idle),
             late: 0,
             started: 0,
         }
@@ -121,12 +123,12 @@ impl Walk {
         if cores.0 <= self.running {
             return false;
         }
-        task.a.0 <= sets::size(self.idle)
+        task.a.0 <= self.room
     }
 
     // The task starts.
     fn go(self, k: usize, task: Task, j: Job, late: u32) -> Walk
-        requires { ⌜ self .running < mostTasks + mostTasks ⌝ }
+        requires { ⌜ (self .running < mostTasks + mostTasks) × (task .a .0 ≤ self .room) ⌝ }
         ensures { λ r. ⌜ r ≡ walkGo k task j late self ⌝ }
     {
         let held = sets::choose(self.idle, task.a.0);
@@ -140,6 +142,7 @@ impl Walk {
             goes: true,
             running: self.running + 1,
             idle: sets::without(self.idle, held),
+            room: self.room - task.a.0,
             late: late,
             started: self.started | sets::task_bit(k),
         }
@@ -154,6 +157,7 @@ impl Walk {
             goes: goes,
             running: self.running,
             idle: self.idle,
+            room: self.room,
             late: late,
             started: self.started,
         }

@@ -1,16 +1,13 @@
-// A fresh machine and set-up, and refusal 14: whether a state meets its conditions.
+// Jobs, a fresh machine and set-up.
 ghost use mathlib.Core.Path.{_≡_};
-ghost use mathlib.Core.Bool.{cond, _&&_, _||_};
-ghost use Prim.Native.Nat.{suc, min, _≤_};
+ghost use mathlib.Core.Bool.{cond, not, _&&_};
+ghost use Prim.Native.Nat.{min, _≤_};
 ghost use lib.Dec.{leb};
-ghost use Rattle.maths.specs.Tasks.{every};
 ghost use Rattle.table.specs.Limits.{mostTasks, mostPartitions};
-ghost use Rattle.table.specs.Tasks.{M, P, τ, C};
-ghost use Rattle.table.specs.Good.{Good};
-ghost use Rattle.sets.specs.Families.{allApart};
-ghost use Rattle.machine.specs.Jobs.{isIdle, isWaiting, isRunning, noJob, job, running};
+ghost use Rattle.table.specs.Tasks.{C};
+ghost use Rattle.machine.specs.Jobs.{isIdle, isWaiting, isRunning, noJob};
 ghost use Rattle.machine.specs.Fresh.{trimmed, fresh, setUp};
-ghost use Rattle.machine.specs.Conditions.{isNoTask, isNoJob, hasNothing, goodStage, goodJob, goodState};
+ghost use Rattle.machine.specs.Conditions.{hasNothing, goodStage, goodJob};
 ghost use Rattle.machine.specs.Passes.{isLeft};
 use crate::Job;
 use crate::Machine;
@@ -51,14 +48,14 @@ impl Stage {
         }
     }
 
-    // 0 for an idle job.
+    // 0 for an idle job only: the byte of a stage, as it stands in memory.
     pub(crate) fn mark(self) -> u32
-        ensures { λ r. ⌜ r ≡ cond (isIdle self) 0 1 ⌝ }
+        ensures { λ r. ⌜ r ≡ cond (isIdle self) 0 (cond (isWaiting self) 1 2) ⌝ }
     {
         match self {
             Stage::Idle => 0,
             Stage::Waiting => 1,
-            Stage::Running => 1,
+            Stage::Running => 2,
         }
     }
 
@@ -84,23 +81,6 @@ impl Job {
             ran: 0,
             held: 0,
         }
-    }
-
-    // An entry past n.
-    fn is_none(self) -> bool
-        ensures { λ r. ⌜ r ≡ isNoJob self ⌝ }
-    {
-        let s = self.stage;
-        if !s.is_idle() {
-            return false;
-        }
-        if self.age != 0 {
-            return false;
-        }
-        if self.ran != 0 {
-            return false;
-        }
-        self.held == 0
     }
 
     // Task k idles and is not in the set: a tick that names only the tasks of the set adds 1 to its age, and changes nothing else.
@@ -168,22 +148,6 @@ impl Job {
         }
         self.has_nothing()
     }
-}
-
-// An entry past n.
-fn is_no_task(t: Task) -> bool
-    ensures { λ r. ⌜ r ≡ isNoTask t ⌝ }
-{
-    if t.d != 0 {
-        return false;
-    }
-    if t.t != 0 {
-        return false;
-    }
-    if t.c != 0 {
-        return false;
-    }
-    t.a.0 == 0
 }
 
 // How many entries tasks 1 to n have: a refused table may say more than there are.
@@ -259,67 +223,5 @@ impl Machine {
             refused: refused,
             machine: old,
         }
-    }
-
-    // Entries past n are zero.
-    fn ends_in_zeros(self) -> bool
-        ensures { λ r. ⌜ r ≡ every mostTasks (λ k. leb k (self .table .n) || isNoTask (τ (self .table) k) && isNoJob (job self k)) ⌝ }
-    {
-        let t = self.table;
-        let mut i = t.n;
-        while i < Table::MOST {
-            if !is_no_task(t.rows[i]) {
-                return false;
-            }
-            if !self.jobs[i].is_none() {
-                return false;
-            }
-            i += 1;
-        }
-        true
-    }
-
-    // What is asked of tasks 1 to n: of each job, that no partition has two holders, and that at most M jobs run.
-    fn jobs_are_good(self) -> bool
-        requires { ⌜ Good (self .table) ⌝ }
-        ensures { λ r. ⌜ r ≡ (every (self .table .n) (λ k. goodJob (P (self .table)) (τ (self .table) k) (job self k))
-            && allApart (self .table .n) (λ i. job self (suc i) .held)
-            && leb (running self) (M (self .table))) ⌝ }
-    {
-        let t = self.table;
-        let n = t.n;
-        let p = t.platform.partitions;
-        let mut busy: u64 = 0;
-        let mut count: u32 = 0;
-        let mut i: usize = 0;
-        while i < n {
-            let j = self.jobs[i];
-            if !j.is_good(p, t.rows[i]) {
-                return false;
-            }
-            if busy & j.held != 0 {
-                return false;
-            }
-            busy = busy | j.held;
-            let s = j.stage;
-            count += s.runs();
-            i += 1;
-        }
-        count <= t.platform.cores.0
-    }
-
-    // The state meets the conditions of refusal 14.
-    pub fn is_good(self) -> bool
-        ensures { λ r. ⌜ r ≡ goodState self ⌝ }
-    {
-        let t = self.table;
-        let refused = t.refused();
-        if refused.number != 0 {
-            return false;
-        }
-        if !self.ends_in_zeros() {
-            return false;
-        }
-        self.jobs_are_good()
     }
 }

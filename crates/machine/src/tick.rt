@@ -2,6 +2,7 @@
 ghost use mathlib.Core.Path.{_≡_};
 ghost use mathlib.Core.Bool.{cond};
 ghost use lib.Dec.{eqb};
+ghost use Rattle.machine.specs.Conditions.{goodState};
 ghost use Rattle.machine.specs.Tick.{tick};
 use crate::Answer;
 use crate::Look;
@@ -82,5 +83,13 @@ impl Machine {
                 started: walk.started,
             },
         }
+    }
+
+    // The state meets the conditions of refusal 14, which a tick tries first.
+    pub fn is_good(self) -> bool
+        ensures { λ r. ⌜ r ≡ goodState self ⌝ }
+    {
+        let r = self.tick(0, 0);
+        r.answer.refused.number != 14
     }
 }

@@ -7,3 +7,4 @@ pub mod Holders
 pub mod Chosen
 pub mod Choices
 pub mod Lowest
+pub mod Determined

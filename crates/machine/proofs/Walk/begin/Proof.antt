@@ -1,5 +1,8 @@
 use mathlib.Core.Path.{sym, _∙_}
-use borrow.Author.Tests.{not-true, not-false}
+use borrow.Author.Tests.{leb-true, not-true, not-false}
+use lib.Dec.{ltb}
+use Rattle.maths.proofs.Tests.{both}
+use Rattle.table.specs.Tasks.{A}
 use borrow.Author.Needs.{needs}
 use Rattle.machine.proofs.Walk.begin.Statement.{statement}
 use Rattle.machine.proofs.Walk.begin.Tie as tie
@@ -25,7 +28,11 @@ returns-2 c =
     rw (sym (e .before .before .tries .ensures) ∙ not-false _ (e .before .if1 .left), sym (e .has-room .ensures) ∙ not-true _ (c .before .if2 .taken)) (c .by2 .ensures)
 
 go-requires : tie.Need-go-requires
-go-requires c κs = search needs
+go-requires c κs =
+    let e = c .before in
+    let s = e .before .before .before in
+    let room = both (ltb (s .args .self .running) (s .args .cores .0)) _ (sym (e .has-room .ensures) ∙ not-false _ (c .if2 .left)) in
+    (s .pre, leb-true (A (s .args .task)) (s .args .self .room) (room .1))
 
 returns-3 : tie.Need-returns-3
 returns-3 c =

@@ -11,11 +11,17 @@ add-t9 c = search needs
 without-requires : tie.Need-without-requires
 without-requires c κs = search needs
 
+sub-t11 : tie.Need-sub-t11
+sub-t11 c = search needs
+
 task-bit-requires : tie.Need-task-bit-requires
 task-bit-requires c κs = search needs
 
 returns : tie.Need-returns
-returns c = rw (c .before .before .without .ensures, c .before .task-bit .ensures, c .before .before .before .before .choose .ensures)
+returns c =
+    let w = c .before .before .before .before in
+    rw (w .without .ensures, c .before .task-bit .ensures, w .before .before .choose .ensures)
 
 pub go-spec : {M : Type 1} → statement M
-go-spec = tie.close (tie.spec choose-requires add-t9 without-requires task-bit-requires returns)
+go-spec =
+    tie.close (tie.spec choose-requires add-t9 without-requires sub-t11 task-bit-requires returns)

@@ -1,9 +1,10 @@
 // The first pass of a tick: it judges the lent state and the two sets task by task, and changes nothing.
 ghost use mathlib.Core.Path.{_≡_};
-ghost use mathlib.Core.Bool.{true, _&&_};
+ghost use mathlib.Core.Bool.{true, false, _&&_};
 ghost use Prim.Native.Nat.{_<_, _≤_};
 ghost use lib.Dec.{eqb};
 ghost use Rattle.table.specs.Limits.{mostTasks, mostPartitions, longestPeriod};
+ghost use Rattle.machine.specs.Jobs.{isRunning};
 ghost use Rattle.machine.specs.Conditions.{isNoTask, isNoJob};
 ghost use Rattle.machine.specs.Passes.{lookStart, lookBad, admits, lookMore, lookWith, foundGood, foundRefusal};
 use crate::Job;
@@ -66,18 +67,27 @@ impl Look {
 
     // A good task more.
     fn more(self, k: usize, task: Task, j: Job, released: bool, finished: bool) -> Look
-        requires { ⌜ (self .running < mostTasks) × (self .stays < mostTasks) × (j .ran ≤ longestPeriod) ⌝ }
+        requires { ⌜ (self .running < mostTasks) × (self .stays < mostTasks) × (j .ran ≤ longestPeriod) × (isRunning (j .stage) ≡ false → j .held ≡ 0) ⌝ }
         ensures { λ r. ⌜ r ≡ lookMore k task j released finished self ⌝ }
     {
         let s = j.stage;
-        let runs = s.runs();
         let number = number_of(task, j, released, finished);
         let refused = first_of(self.refused, number, k);
+        if !s.is_running() {
+            return Look {
+                good: true,
+                refused: refused,
+                running: self.running,
+                held: self.held,
+                stays: self.stays,
+                busy: self.busy,
+            };
+        }
         if finished {
             return Look {
                 good: true,
                 refused: refused,
-                running: self.running + runs,
+                running: self.running + 1,
                 held: self.held | j.held,
                 stays: self.stays,
                 busy: self.busy,
@@ -86,9 +96,9 @@ impl Look {
         Look {
             good: true,
             refused: refused,
-            running: self.running + runs,
+            running: self.running + 1,
             held: self.held | j.held,
-            stays: self.stays + runs,
+            stays: self.stays + 1,
             busy: self.busy | j.held,
         }
     }

@@ -1,12 +1,11 @@
-use native.Mathlib.Omega.{arith}
+use mathlib.Core.Path.{_≡_, sym, _∙_}
+use mathlib.Core.Bool.{true, false}
+use borrow.Author.Tests.{not-true, not-false}
 use Rattle.machine.specs.Jobs.{isRunning}
-use Rattle.machine.proofs.TickTurns.{one-le}
+use Rattle.machine.proofs.TickLeft.{look-still}
 use borrow.Author.Needs.{needs}
 use Rattle.machine.proofs.Look.more.Statement.{statement}
 use Rattle.machine.proofs.Look.more.Tie as tie
-
-runs-requires : tie.Need-runs-requires
-runs-requires c κs = search needs
 
 number-of-requires : tie.Need-number-of-requires
 number-of-requires c κs = search needs
@@ -14,40 +13,50 @@ number-of-requires c κs = search needs
 first-of-requires : tie.Need-first-of-requires
 first-of-requires c κs = search needs
 
-add-t12 : tie.Need-add-t12
-add-t12 c =
-    let s = c .before .before .before .before in
-    omega (arith, s .runs .ensures, one-le (isRunning (s .before .args .j .stage)))
+is-running-requires : tie.Need-is-running-requires
+is-running-requires c κs = search needs
 
 returns : tie.Need-returns
 returns c =
-    let s = c .before .before .before in
-    rw (s .before .first-of .ensures, s .before .before .number-of .ensures, s .before .before .before .runs .ensures) (rw (s .if1 .taken))
+    let n = c .before .before .before in
+    let s = n .before in
+    let still : isRunning (s .args .j .stage) ≡ false = sym (c .before .is-running .ensures) ∙ not-true _ (c .if1 .taken) in
+    rw (c .before .before .first-of .ensures, n .number-of .ensures)
+    (look-still (s .args .k) (s .args .task) (s .args .j) (s .args .released) (s .args .finished) (s .args .self) still (s .pre .3 still))
 
-add-t14 : tie.Need-add-t14
-add-t14 c =
-    let s = c .before .before .before .before in
-    omega (arith, s .runs .ensures, one-le (isRunning (s .before .args .j .stage)))
+add-t12 : tie.Need-add-t12
+add-t12 c = search needs
 
-add-t16 : tie.Need-add-t16
-add-t16 c =
-    let s = c .before .before .before .before .before .before .before in
-    omega (arith, s .runs .ensures, one-le (isRunning (s .before .args .j .stage)))
+-- it runs
+running : (c : tie.Else1) → isRunning (c .before .before .before .before .args .j .stage) ≡ true
+running c = sym (c .before .is-running .ensures) ∙ not-false _ (c .if1 .left)
 
 returns-2 : tie.Need-returns-2
 returns-2 c =
-    let s = c .before .before .before .before .before .before in
-    rw (s .before .first-of .ensures, s .before .before .number-of .ensures, s .before .before .before .runs .ensures) (rw (s .if1 .left))
+    let e = c .before .before .before in
+    rw (e .before .before .before .first-of .ensures, e .before .before .before .before .number-of .ensures) (rw (running (e .before), e .if2 .taken))
+
+add-t14 : tie.Need-add-t14
+add-t14 c = search needs
+
+add-t16 : tie.Need-add-t16
+add-t16 c = search needs
+
+returns-3 : tie.Need-returns-3
+returns-3 c =
+    let e = c .before .before .before .before .before .before in
+    rw (e .before .before .before .first-of .ensures, e .before .before .before .before .number-of .ensures) (rw (running (e .before), e .if2 .left))
 
 pub more-spec : {M : Type 1} → statement M
 more-spec =
     tie.close
     (tie.spec
-    runs-requires
     number-of-requires
     first-of-requires
-    add-t12
+    is-running-requires
     returns
+    add-t12
+    returns-2
     add-t14
     add-t16
-    returns-2)
+    returns-3)

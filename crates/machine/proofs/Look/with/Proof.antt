@@ -3,7 +3,7 @@ use mathlib.Core.Bool.{true}
 use borrow.Author.Tests.{not-true, not-false}
 use Rattle.machine.specs.Passes.{admits, lookWith}
 use Rattle.machine.proofs.TickTurns.{admitted-ran}
-use Rattle.machine.proofs.TickLeft.{look-left}
+use Rattle.machine.proofs.TickLeft.{holds-none, look-left}
 use borrow.Author.Needs.{needs}
 use Rattle.machine.proofs.Look.with.Statement.{statement}
 use Rattle.machine.proofs.Look.with.Tie as tie
@@ -39,7 +39,8 @@ more-requires : tie.Need-more-requires
 more-requires c κs =
     let e = c .before .before .before .before in
     let s = e .before .before in
-    (s .pre .1, s .pre .2, admitted-ran (s .args .p .0) (s .args .task) (s .args .j) (s .args .self) (sym (e .before .admits .ensures) ∙ not-false _ (e .if1 .left)))
+    let w : admits (s .args .p .0) (s .args .task) (s .args .j) (s .args .self) ≡ true = sym (e .before .admits .ensures) ∙ not-false _ (e .if1 .left) in
+    (s .pre .1, s .pre .2, admitted-ran (s .args .p .0) (s .args .task) (s .args .j) (s .args .self) w, holds-none (s .args .p .0) (s .args .task) (s .args .j) (s .args .self) w)
 
 returns-3 : tie.Need-returns-3
 unfolding lookWith

@@ -10,8 +10,19 @@
 //! X  a tick of a machine given        V  platform and tasks texts are written, each by itself
 //!                                     W  both are written, or neither
 //! ```
+//!
+//! A buffer is `BEFORE` in every byte until it is written to. Of M and N the answer shows the room given and `PAST` bytes behind it.
 
 use std::io::{self, Read};
+
+/// The bytes of a buffer before it is written to.
+pub const BEFORE: u8 = 0xa5;
+
+/// How many bytes behind the room are shown.
+pub const PAST: usize = 16;
+
+/// The most room that a case of M or N gives.
+pub const MOST: usize = 524_288 - PAST;
 
 #[derive(Clone, Copy, Debug, PartialEq, Eq)]
 pub enum Form {
@@ -63,6 +74,12 @@ fn report_fields() -> Vec<Field> {
     vec![field("released", U32), field("finished", U32)]
 }
 
+/// What a writer answers, and what its buffer then is.
+fn written_fields(of: &str) -> Vec<Field> {
+    let name = |what: &str| format!("{of}{what}");
+    vec![field(name("number"), U32), field(name("row"), U64), field(name("length"), U64), field(name("buffer"), Text)]
+}
+
 /// The fields of a case.
 pub fn case_fields(kind: u8) -> Option<Vec<Field>> {
     let mut all = vec![];
@@ -83,6 +100,7 @@ pub fn case_fields(kind: u8) -> Option<Vec<Field>> {
             if kind == b'N' {
                 all.push(field("ticks", Text));
             }
+            all.push(field("room", U32));
         }
         b'V' | b'W' => {
             all.extend(table_fields());
@@ -120,12 +138,10 @@ pub fn answer_fields(kind: u8) -> Option<Vec<Field>> {
             all.extend([field("rows", U64), field("digest", U32)]);
         }
         b'C' => all.push(field("answer", U32)),
-        b'M' | b'N' => all.push(field("listing", Text)),
+        b'M' | b'N' => all.extend(written_fields("")),
         b'V' => {
-            for name in ["platform", "tasks"] {
-                all.extend([field(format!("{name} number"), U32), field(format!("{name} row"), U64)]);
-                all.extend([field(format!("{name} length"), U64), field(format!("{name} buffer"), Text)]);
-            }
+            all.extend(written_fields("platform "));
+            all.extend(written_fields("tasks "));
         }
         b'W' => {
             all.extend([field("number", U32), field("row", U64)]);

@@ -6,4 +6,5 @@ pub use reads::platform;
 pub use reads::tasks;
 pub use reads::ticks;
 pub use writes::both;
+pub use writes::send_written;
 pub use writes::texts;

@@ -21,7 +21,7 @@ fn send_part(b: &[u8], n: usize) {
 }
 
 // The answer, and what the first n bytes of the buffer then are.
-fn send_written(w: Written, b: &[u8], n: usize) {
+pub fn send_written(w: Written, b: &[u8], n: usize) {
     let mut answer = [0u8; 304];
     put_refusal(&mut answer, 0, w.refused);
     put64(&mut answer, 12, count(w.length));

@@ -85,9 +85,9 @@ static int counted(const input *x) {
     return differ(x, a, b);
 }
 
-static u64 proved_full(const input *x, u64 n) { return bench_full(x->words, WORDS, x->p, x->q, n); }
+static u64 proved_full(const input *x, u64 n) { return bench_answers(0, x->words, WORDS, x->p, x->q, n); }
 static u64 c_full(const input *x, u64 n) { return plain_full(x->words, WORDS, x->p, x->q, n); }
-static u64 proved_quick(const input *x, u64 n) { return bench_quick(x->words, WORDS, x->p, x->q, n); }
+static u64 proved_quick(const input *x, u64 n) { return bench_answers(1, x->words, WORDS, x->p, x->q, n); }
 static u64 c_quick(const input *x, u64 n) { return plain_quick(x->words, WORDS, x->p, x->q, n); }
 
 // Ticks in lots, each from a fresh machine.

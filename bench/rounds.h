@@ -7,9 +7,8 @@
 table table_of(const u32 *words, u64 count);
 
 // Rounds of the full and of the quick answer, on p and q partitions in turn.
-u64 bench_full(const u32 *words, u64 count, u32 p, u32 q, u64 n);
+u64 bench_answers(_Bool brief, const u32 *words, u64 count, u32 p, u32 q, u64 n);
 u64 plain_full(const u32 *words, u64 count, u32 p, u32 q, u64 n);
-u64 bench_quick(const u32 *words, u64 count, u32 p, u32 q, u64 n);
 u64 plain_quick(const u32 *words, u64 count, u32 p, u32 q, u64 n);
 
 // Ticks of a fresh machine, one for each report: their words stand two by two, released and finished.

@@ -1,7 +1,7 @@
 -- Rounds of the full and of the quick answer. The table's partitions are p in even rounds and q in odd ones, so that no round's work is
 -- another's. Of a full answer's margins the first and the last are folded.
 use Prim.Native.Nat.{ℕ, _%_}
-use mathlib.Core.Bool.{cond}
+use mathlib.Core.Bool.{Bool, cond}
 use mathlib.Core.List.{List}
 use lib.Dec.{eqb}
 use lib.IntN.{pos}
@@ -29,8 +29,9 @@ fullFolded a h = folded (folded (folded (folded h (a .refused .number)) (a .firs
 abbrev pub quickFolded : QuickAnswer → ℕ → ℕ
 quickFolded a h = folded (folded h (a .refused .number)) (a .first)
 
-unfoldable pub fullRounds : List ℕ → ℕ → ℕ → ℕ → ℕ
-fullRounds ws p q n = rounds (λ i. fullFolded (fullAnswer (onPartitions (tableOf ws) (partitionsIn p q i)))) n
+-- of the quick answer, which is the brief one, or of the full one
+abbrev pub answerFolded : Bool → Table → ℕ → ℕ
+answerFolded brief t h = cond brief (quickFolded (quickAnswer t) h) (fullFolded (fullAnswer t) h)
 
-unfoldable pub quickRounds : List ℕ → ℕ → ℕ → ℕ → ℕ
-quickRounds ws p q n = rounds (λ i. quickFolded (quickAnswer (onPartitions (tableOf ws) (partitionsIn p q i)))) n
+unfoldable pub answerRounds : Bool → List ℕ → ℕ → ℕ → ℕ → ℕ
+answerRounds brief ws p q n = rounds (λ i. answerFolded brief (onPartitions (tableOf ws) (partitionsIn p q i))) n

@@ -4,7 +4,7 @@ ghost use mathlib.Core.Path.{_≡_};
 ghost use lib.Signed.{mag};
 ghost use Rattle.table.specs.Limits.{mostTasks};
 ghost use Rattle.admission.specs.Answers.{fullAnswer, quickAnswer};
-ghost use Rattle.bench.specs.Admission.{onPartitions, partitionsIn, marginOf, fullFolded, quickFolded};
+ghost use Rattle.bench.specs.Admission.{onPartitions, partitionsIn, marginOf, fullFolded, quickFolded, answerFolded};
 use crate::rounds::fold;
 use admission::FullAnswer;
 use admission::QuickAnswer;
@@ -51,16 +51,25 @@ fn fold_full(h: u64, a: FullAnswer) -> u64
     fold(h3, margin(a, 31))
 }
 
-pub fn full(h: u64, t: Table, p: u32) -> u64
+fn full(h: u64, t: Table, p: u32) -> u64
     ensures { λ r. ⌜ r ≡ fullFolded (fullAnswer (onPartitions t p)) h ⌝ }
 {
     fold_full(h, admission::full_answer(on_partitions(t, p)))
 }
 
-pub fn quick(h: u64, t: Table, p: u32) -> u64
+fn quick(h: u64, t: Table, p: u32) -> u64
     ensures { λ r. ⌜ r ≡ quickFolded (quickAnswer (onPartitions t p)) h ⌝ }
 {
     let a = admission::quick_answer(on_partitions(t, p));
     let h1 = fold(h, a.refused.number as u64);
     fold(h1, a.first as u64)
+}
+
+pub fn answer(brief: bool, h: u64, t: Table, p: u32) -> u64
+    ensures { λ r. ⌜ r ≡ answerFolded brief (onPartitions t p) h ⌝ }
+{
+    if brief {
+        return quick(h, t, p);
+    }
+    full(h, t, p)
 }

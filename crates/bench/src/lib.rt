@@ -1,7 +1,7 @@
 // The proved functions as a C program can time them. Each function here runs one of them for a number of rounds on one input, of which
 // every round changes a field, and folds the answers into a number that the plain C version of the same work has to reach too.
 ghost use mathlib.Core.Path.{_≡_};
-ghost use Rattle.bench.specs.Admission.{fullRounds, quickRounds};
+ghost use Rattle.bench.specs.Admission.{answerRounds};
 ghost use Rattle.bench.specs.Ticks.{tickRounds};
 use machine::Machine;
 
@@ -10,31 +10,16 @@ mod rounds;
 mod tables;
 mod ticks;
 
-// Rounds of the full answer to the table that the words hold, on p and q partitions in turn.
+// Rounds of the full or of the quick answer to the table that the words hold, on p and q partitions in turn.
 #[no_mangle]
-pub extern "C" fn bench_full(words: &[u32], p: u32, q: u32, n: usize) -> u64
-    ensures { λ r. ⌜ r ≡ fullRounds (now (words .entry)) p q n ⌝ }
+pub extern "C" fn bench_answers(brief: bool, words: &[u32], p: u32, q: u32, n: usize) -> u64
+    ensures { λ r. ⌜ r ≡ answerRounds brief (now (words .entry)) p q n ⌝ }
 {
     let t = tables::table(words);
     let mut h: u64 = 0;
     let mut i: usize = 0;
     while i < n {
-        h = admits::full(h, t, admits::partitions(p, q, i));
-        i += 1;
-    }
-    h
-}
-
-// Rounds of the quick answer.
-#[no_mangle]
-pub extern "C" fn bench_quick(words: &[u32], p: u32, q: u32, n: usize) -> u64
-    ensures { λ r. ⌜ r ≡ quickRounds (now (words .entry)) p q n ⌝ }
-{
-    let t = tables::table(words);
-    let mut h: u64 = 0;
-    let mut i: usize = 0;
-    while i < n {
-        h = admits::quick(h, t, admits::partitions(p, q, i));
+        h = admits::answer(brief, h, t, admits::partitions(p, q, i));
         i += 1;
     }
     h

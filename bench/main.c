@@ -97,7 +97,7 @@ static u64 in_lots(u64 f(const u32 *, u64, const u32 *, u64), const input *x, u6
     return h + f(x->words, WORDS, x->reports, 2 * n);
 }
 
-static u64 proved_ticks(const input *x, u64 n) { return in_lots(bench_ticks, x, n); }
+static u64 proved_ticks(const input *x, u64 n) { return in_lots(lent_ticks, x, n); }
 static u64 c_ticks(const input *x, u64 n) { return in_lots(plain_ticks, x, n); }
 
 static input *add(const char *what, u32 tasks, const char *how, rounds *proved, rounds *plain) {

@@ -57,6 +57,18 @@ u64 plain_ticks(const u32 *words, u64 count, const u32 *reports, u64 report_word
     return h;
 }
 
+u64 lent_ticks(const u32 *words, u64 count, const u32 *reports, u64 report_words) {
+    table t = table_of(words, count);
+    machine m;
+    u64 h = 0;
+    gorsetumble_set_up(&m, (platform){t.cores, t.partitions}, t.rows, t.n);
+    for (u64 i = 0; i < report_words / 2; i++) {
+        answer a = gorsetumble_tick(&m, reports[2 * i], reports[2 * i + 1]);
+        h = fold(fold(fold(h, a.refused.number), a.late), a.started);
+    }
+    return h;
+}
+
 u64 plain_read_tasks(const u8 *text, u64 length) {
     table t;
     refusal r = read_tasks(text, length, &t);

@@ -11,8 +11,14 @@ u64 bench_answers(_Bool brief, const u32 *words, u64 count, u32 p, u32 q, u64 n)
 u64 plain_full(const u32 *words, u64 count, u32 p, u32 q, u64 n);
 u64 plain_quick(const u32 *words, u64 count, u32 p, u32 q, u64 n);
 
-// Ticks of a fresh machine, one for each report: their words stand two by two, released and finished.
-u64 bench_ticks(const u32 *words, u64 count, const u32 *reports, u64 report_words);
+// Ticks of a fresh machine, one for each report: their words stand two by two, released and finished. The proved ones are those of crates/unit, as
+// any C program calls them: on a machine that it lends, of the same layout as the plain one.
+typedef struct {
+    u32 cores, partitions;
+} platform;
+refusal gorsetumble_set_up(machine *m, platform p, const task *rows, u64 count);
+answer gorsetumble_tick(machine *m, u32 released, u32 finished);
+u64 lent_ticks(const u32 *words, u64 count, const u32 *reports, u64 report_words);
 u64 plain_ticks(const u32 *words, u64 count, const u32 *reports, u64 report_words);
 
 // One reading of a text, folded; what the program `ticks` writes of three texts, its length.

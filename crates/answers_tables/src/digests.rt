@@ -5,7 +5,6 @@ use answers_wire::mixed64;
 use answers_wire::short;
 use machine::Job;
 use machine::Machine;
-use machine::Stage;
 use table::Table;
 use table::Task;
 
@@ -23,17 +22,8 @@ fn with_rows(h: u64, rows: [Task; Table::MOST]) -> u64 {
     all
 }
 
-fn number_of(s: Stage) -> u32 {
-    match s {
-        Stage::Idle => 0,
-        Stage::Waiting => 1,
-        Stage::Running => 2,
-    }
-}
-
 fn with_job(h: u64, j: Job) -> u64 {
-    let s = j.stage;
-    mixed64(mixed(mixed(mixed(h, number_of(s)), j.age), j.ran), j.held)
+    mixed64(mixed(mixed(mixed(h, j.stage.0), j.age), j.ran), j.held)
 }
 
 fn with_jobs(h: u64, jobs: [Job; Table::MOST]) -> u64 {

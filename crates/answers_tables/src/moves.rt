@@ -17,7 +17,7 @@ use table::Table;
 
 fn no_job() -> Job {
     Job {
-        stage: Stage::Idle,
+        stage: Stage::IDLE,
         age: 0,
         ran: 0,
         held: 0,
@@ -36,19 +36,11 @@ pub fn nothing() -> Machine {
     }
 }
 
-fn stage(x: u32) -> Stage {
-    match x {
-        0 => Stage::Idle,
-        1 => Stage::Waiting,
-        _ => Stage::Running,
-    }
-}
-
 fn job(b: &[u8], at: usize) -> Job
     requires { ⌜ at ≤ 2000 ⌝ }
 {
     Job {
-        stage: stage(word(b, at)),
+        stage: Stage(word(b, at)),
         age: word(b, at + 4),
         ran: word(b, at + 8),
         held: word64(b, at + 12),

@@ -17,20 +17,13 @@ use Rattle.sets.specs.Families.{Apart}
 use Rattle.sets.specs.Choice.{choice}
 use Rattle.sets.proofs.Choices.{choice-lt, choice-free, choice-size}
 use Rattle.sets.proofs.Holders.{apart-take}
-use Rattle.machine.specs.declared.Stage.{Stage}
-use Rattle.machine.specs.declared.Stage.the-variants.{Idle, Waiting, Running}
 use Rattle.machine.specs.declared.Job.{Job}
 use Rattle.machine.specs.declared.Machine.{Machine}
 use Rattle.machine.specs.Jobs.{isWaiting, isRunning, noJob, job, waits, runs, running, busy, idlePartitions, idleCount}
 use Rattle.machine.specs.Steps.{fits, begun, start}
 use Rattle.machine.proofs.Jobs.{start-same, start-other}
-use Rattle.machine.proofs.StateParts.{GoodJob, GoodState}
+use Rattle.machine.proofs.StateParts.{waits-not-runs, is-running, GoodJob, GoodState}
 use Rattle.conduct.proofs.Lives.{one}
-
-pub waits-not-runs : (s : Stage) → isWaiting s ≡ true → isRunning s ≡ false
-waits-not-runs Idle e = refl
-waits-not-runs Waiting e = refl
-waits-not-runs Running e = absurd (true≢false (sym e))
 
 -- a core is idle, and A partitions are
 fits-both : (m : Machine) (k : ℕ) → fits m k ≡ true → (running m < M (m .table)) × (A (τ (m .table) k) ≤ idleCount m)
@@ -61,12 +54,13 @@ module _ (m : Machine) (i : ℕ) (w : waits m (suc i) ≡ true) where
         (record {
           age = g .each i l .age;
           stage =
-              record {
+              is-running refl
+              (record {
                 short = zero-le;
                 younger = zero-le;
                 count = choice-size (idlePartitions m) (A (τ t (suc i))) (fits-both m (suc i) f .1);
                 cache = choice-lt (P t) (idlePartitions m) (A (τ t (suc i))) idle-lt;
-              };
+              });
         })
 
     each-good : (j : ℕ) → j < m .table .n → GoodJob (P (m .table)) (τ (m .table) (suc j)) (job (start m i) (suc j))

@@ -1,15 +1,14 @@
 -- What an accepted tick makes of each task: steps 1, 2, 4 and 5 of its life, by what the report and the answer say of it.
 use mathlib.Core.Path.{_≡_, refl, sym, _∙_}
-use mathlib.Core.Bool.{Bool, true, false, _&&_}
+use mathlib.Core.Bool.{Bool, true, false, _&&_, true≢false}
 use mathlib.Core.Logic.{_≢_}
 use Rattle.table.specs.declared.Task.{Task}
 use Rattle.table.specs.Tasks.{T, C}
-use Rattle.machine.specs.declared.Stage.{Stage}
-use Rattle.machine.specs.declared.Stage.the-variants.{Idle, Waiting, Running}
 use Rattle.machine.specs.declared.Job.{Job}
 use Rattle.machine.specs.Jobs.{isWaiting, isRunning}
 use Rattle.machine.specs.Steps.{older}
 use Rattle.machine.proofs.Jobs.{finishedJob, readiedJob}
+use Rattle.machine.proofs.StateParts.{not-both}
 use Rattle.lives.specs.Life.{age, ran, idles, waits, runs, rise, finish, release, start, Allowed}
 use Rattle.conduct.specs.Lives.{row, life}
 use Rattle.conduct.proofs.Taken.{Taken}
@@ -20,18 +19,10 @@ use Rattle.conduct.proofs.Starting.{Began, stayed, began}
 abbrev pub starts : Job → Job → Bool
 starts a b = isWaiting (a .stage) && isRunning (b .stage)
 
-not-started : (a : Job) → starts a a ≡ false
-not-started a = by (a .stage)
-  where
-    by : (s : Stage) → isWaiting s && isRunning s ≡ false
-    by Idle = refl
-    by Waiting = refl
-    by Running = refl
-
 -- step 5
 life-started : {a b : Job} → Began a b → life b ≡ start (starts a b) (life a)
-life-started {a} {b} (stayed e) = rw (e, not-started a)
-life-started {a} {b} (began held w e) = rw (e, w) (life-begun held a)
+life-started {a} {b} (stayed e) = rw (e, not-both (a .stage))
+life-started {a} {b} (began held w e) = rw (e, w) (rw w at (life-begun held a))
 
 -- a job that is waiting before step 5 is where it starts
 starts-waiting : (a b : Job) → starts a b ≡ true → isWaiting (a .stage) ≡ true
@@ -48,7 +39,7 @@ module _ (τ : Task) (r f : Bool) (j : Job) (b : Job) where
         wasRunning = λ e. rw (← life-older τ j) (shows (older τ j) .runs ∙ rw (t .wasRunning e));
         notOver = λ e p. over e (one-true (isRunning (j .stage)) (sym (shows (older τ j) .runs) ∙ rw (life-older τ j) p));
         due = λ e. rw (← life-older τ j, shows (older τ j) .age) (t .due e);
-        free = λ e. rw (← life-finished τ f j) (shows (finishedJob τ f j) .idles ∙ rw (t .free e));
+        free = λ e. rw (← life-finished τ f j) (shows (finishedJob τ f j) .idles (λ i. absurd (true≢false (sym (t .free e) ∙ i))) ∙ rw (t .free e));
         queued = λ e. rw (← life-readied τ r f j) (shows (readiedJob τ r f j) .waits ∙ rw (starts-waiting (readiedJob τ r f j) b e));
       }
     where

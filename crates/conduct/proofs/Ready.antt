@@ -1,6 +1,6 @@
 -- Steps 1, 2 and 4 of an accepted tick leave a good state.
-use Prim.Native.Nat.{ℕ, suc, _<_, _≤_, zero-le}
-use mathlib.Core.Path.{_≡_, refl, _∙_}
+use Prim.Native.Nat.{ℕ, suc, _+_, _<_, _≤_, zero-le}
+use mathlib.Core.Path.{_≡_, refl, _∙_, ap}
 use mathlib.Core.Bool.{Bool, true, false, cond}
 use mathlib.Core.Logic.{_≢_}
 use native.Mathlib.Omega.{arith}
@@ -15,8 +15,6 @@ use Rattle.sets.specs.Families.{Apart}
 use Rattle.sets.specs.TaskSets.{hasTask}
 use Rattle.sets.proofs.Bits.{bit-zero}
 use Rattle.sets.proofs.Holders.{apart-within}
-use Rattle.machine.specs.declared.Stage.{Stage}
-use Rattle.machine.specs.declared.Stage.the-variants.{Idle, Waiting, Running}
 use Rattle.machine.specs.declared.Job.{Job}
 use Rattle.machine.specs.declared.Machine.{Machine}
 use Rattle.machine.specs.Jobs.{isIdle, isRunning, noJob, job, runs, running}
@@ -24,36 +22,34 @@ use Rattle.machine.specs.Steps.{forTasks, older, awaiting}
 use Rattle.machine.specs.Tick.{readied}
 use Rattle.machine.proofs.Jobs.{for-past, finishedJob, readiedJob, readied-pass, readied-job, readied-table}
 use Rattle.machine.proofs.Queue.{ended-rests}
-use Rattle.machine.proofs.StateParts.{GoodJob, GoodState, when-idle}
+use Rattle.machine.proofs.StateParts.{ByStage, is-idle, is-waiting, is-running, GoodJob, GoodState, when-idle}
 use Rattle.conduct.proofs.Accepted.{Accepted}
 use Rattle.conduct.proofs.Taken.{taken}
 use Rattle.conduct.proofs.Lives.{one}
 
-abbrev jobOf : Stage → ℕ → ℕ → ℕ → Job
-jobOf s a r h = record { stage = s; age = a; ran = r; held = h }
-
 module _ {p : ℕ} {τ : Task} (row : GoodRow p τ) where
   -- a job that has not run C ticks
-  older-good : (s : Stage) (a r h : ℕ) → GoodJob p τ (jobOf s a r h) → (isRunning s ≡ true → older τ (jobOf s a r h) .ran ≢ C τ)
-      → GoodJob p τ (older τ (jobOf s a r h))
-  older-good Idle a r h g w =
-      record { age = omega arith; stage = record { rests = record { none = g .stage .rests .none; unrun = g .stage .rests .unrun }; old = omega arith } }
-  older-good Waiting a r h g w = record { age = omega arith; stage = record { none = g .stage .none; unrun = g .stage .unrun } }
-  older-good Running a r h g w =
-      record {
-        age = omega arith;
-        stage = record { short = omega (arith, w refl); younger = omega (arith, w refl); count = g .stage .count; cache = g .stage .cache };
-      }
+  older-good : (j : Job) → GoodJob p τ j → (isRunning (j .stage) ≡ true → older τ j .ran ≢ C τ) → GoodJob p τ (older τ j)
+  older-good j g w = record { age = omega arith; stage = by (g .stage) }
+    where
+      by : ByStage p τ j (j .stage) → ByStage p τ (older τ j) (j .stage)
+      by (is-idle q b) =
+          is-idle q (record { rests = record { none = b .rests .none; unrun = rw q (b .rests .unrun) }; old = omega arith })
+      by (is-waiting q b) = is-waiting q (record { none = b .none; unrun = rw q (b .unrun) })
+      by (is-running q b) =
+          let e : isRunning (j .stage) ≡ true = ap isRunning q in
+          let over : j .ran + 1 ≢ C τ = rw e at (w e) in
+          is-running q (record { short = rw e (omega (arith, over)); younger = rw e (omega (arith, over)); count = b .count; cache = b .cache })
 
   finished-good : (f : Bool) (j : Job) → GoodJob p τ j → (isRunning (j .stage) ≡ true → f ≡ false → older τ j .ran ≢ C τ)
       → GoodJob p τ (finishedJob τ f j)
-  finished-good true j g w = record { age = omega arith; stage = record { rests = ended-rests (older τ j); old = omega arith } }
-  finished-good false j g w = older-good (j .stage) (j .age) (j .ran) (j .held) g (λ e. w e refl)
+  finished-good true j g w = record { age = omega arith; stage = is-idle refl (record { rests = ended-rests (older τ j); old = omega arith }) }
+  finished-good false j g w = older-good j g (λ e. w e refl)
 
   released-good : (r : Bool) (j : Job) → GoodJob p τ j → (r ≡ true → isIdle (j .stage) ≡ true) → GoodJob p τ (cond r (awaiting j) j)
   released-good true j g w =
       let i = when-idle g (w refl) in
-      record { age = zero-le; stage = record { none = i .rests .none; unrun = i .rests .unrun } }
+      record { age = zero-le; stage = is-waiting refl (record { none = i .rests .none; unrun = i .rests .unrun }) }
   released-good false j g w = g
 
 -- a job gives up what it held, or keeps it, and takes no core

@@ -13,8 +13,8 @@ use Rattle.machine.specs.Jobs.{isWaiting, job, waits, runs, idlePartitions}
 use Rattle.machine.specs.Steps.{firstWaiting, fits, begun, start, startFirst, startWaiting}
 use Rattle.machine.proofs.Jobs.{start-other}
 use Rattle.machine.proofs.Queue.{first-task, first-waits, first-lowest}
-use Rattle.machine.proofs.StateParts.{GoodState}
-use Rattle.conduct.proofs.Begin.{waits-not-runs, new-job, start-good}
+use Rattle.machine.proofs.StateParts.{GoodState, waits-not-runs}
+use Rattle.conduct.proofs.Begin.{new-job, start-good}
 
 -- what step 5 makes of a job: it stays, or it waited and has begun
 pub data Began (a b : Job) : Type 0 where

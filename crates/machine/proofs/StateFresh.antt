@@ -22,7 +22,7 @@ use Rattle.machine.specs.declared.Machine.{Machine}
 use Rattle.machine.specs.Jobs.{noJob, job, runs, running}
 use Rattle.machine.specs.Fresh.{trimmed, freshJob, fresh, setUp}
 use Rattle.machine.specs.Conditions.{goodState}
-use Rattle.machine.proofs.StateParts.{GoodJob, GoodState}
+use Rattle.machine.proofs.StateParts.{is-idle, GoodJob, GoodState}
 use Rattle.machine.proofs.StateTest.{state-test}
 
 -- set-up: the old machine counts only where the table is refused, and then it is all that is left
@@ -107,7 +107,7 @@ fresh-job-good : {t : Table} → Good t → (i : ℕ) → i < t .n → GoodJob (
 fresh-job-good {t} g i l =
     record {
       age = le-refl (T (τ t (suc i)));
-      stage = record { rests = record { none = refl; unrun = refl }; old = g .row i l .period };
+      stage = is-idle refl (record { rests = record { none = refl; unrun = refl }; old = g .row i l .period });
     }
 
 pub fresh-state : (t : Table) → refusal t .number ≡ 0 → length (t .rows) ≡ mostTasks → GoodState (fresh t)

@@ -1,7 +1,8 @@
 -- The conditions of a state part by part, for what is proved of good states. StateTest goes from the test of refusal 14 to them and back.
 use Prim.Native.Nat.{ℕ, suc, _-_, _^_, _<_, _≤_}
-use mathlib.Core.Path.{_≡_, sym}
-use mathlib.Core.Bool.{true, false, true≢false}
+use mathlib.Core.Path.{_≡_, refl, sym, _∙_, ap}
+use mathlib.Core.Bool.{Bool, true, false, _&&_, true≢false}
+use borrow.Author.Tests.{eqb-true}
 use lib.Pow.{pow-pos}
 use Rattle.table.specs.declared.Task.{Task}
 use Rattle.table.specs.Good.{Good}
@@ -12,10 +13,36 @@ use Rattle.sets.specs.Sets.{size}
 use Rattle.sets.specs.Families.{Apart}
 use Rattle.sets.proofs.Unions.{union-lt}
 use Rattle.machine.specs.declared.Stage.{Stage}
-use Rattle.machine.specs.declared.Stage.the-variants.{Idle, Waiting, Running}
 use Rattle.machine.specs.declared.Job.{Job}
 use Rattle.machine.specs.declared.Machine.{Machine}
-use Rattle.machine.specs.Jobs.{isIdle, isWaiting, isRunning, noJob, job, running, busy}
+use Rattle.machine.specs.Jobs.{Idle, Waiting, Running, isIdle, isWaiting, isRunning, noJob, job, running, busy}
+
+-- a stage is the number that its test says, and no other
+pub idle-is : (s : Stage) → isIdle s ≡ true → s ≡ Idle
+idle-is s e = λ i. record { 0 = eqb-true (s .0) 0 e i }
+
+pub waiting-is : (s : Stage) → isWaiting s ≡ true → s ≡ Waiting
+waiting-is s e = λ i. record { 0 = eqb-true (s .0) 1 e i }
+
+pub running-is : (s : Stage) → isRunning s ≡ true → s ≡ Running
+running-is s e = λ i. record { 0 = eqb-true (s .0) 2 e i }
+
+pub idle-not-runs : (s : Stage) → isIdle s ≡ true → isRunning s ≡ false
+idle-not-runs s e = ap isRunning (idle-is s e)
+
+pub waits-not-runs : (s : Stage) → isWaiting s ≡ true → isRunning s ≡ false
+waits-not-runs s e = ap isRunning (waiting-is s e)
+
+pub not-both : (s : Stage) → isWaiting s && isRunning s ≡ false
+not-both s = by (isWaiting s) refl
+  where
+    by : (b : Bool) → isWaiting s ≡ b → b && isRunning s ≡ false
+    by true e = waits-not-runs s e
+    by false e = refl
+
+-- a stage that is one of the three
+abbrev pub Staged : Stage → Type 0
+Staged s = isIdle s ≡ false → isWaiting s ≡ false → isRunning s ≡ true
 
 -- a job that is not running
 pub record Rests (j : Job) : Type 0 where
@@ -33,10 +60,10 @@ pub record Runs (p : ℕ) (τ : Task) (j : Job) : Type 0 where
   pub count : size mostPartitions (j .held) ≡ A τ
   pub cache : j .held < 2 ^ p
 
-abbrev pub ByStage : ℕ → Task → Job → Stage → Type 0
-ByStage p τ j Idle = Idles j
-ByStage p τ j Waiting = Rests j
-ByStage p τ j Running = Runs p τ j
+pub data ByStage (p : ℕ) (τ : Task) (j : Job) (s : Stage) : Type 0 where
+  is-idle : s ≡ Idle → Idles j → ByStage p τ j s
+  is-waiting : s ≡ Waiting → Rests j → ByStage p τ j s
+  is-running : s ≡ Running → Runs p τ j → ByStage p τ j s
 
 pub record GoodJob (p : ℕ) (τ : Task) (j : Job) : Type 0 where
   pub age : j .age ≤ T τ
@@ -54,44 +81,47 @@ pub record GoodState (m : Machine) : Type 0 where
 -- what a good job's stage says of it
 module _ {p : ℕ} {τ : Task} {j : Job} (g : GoodJob p τ j) where
   pub when-idle : isIdle (j .stage) ≡ true → Idles j
-  when-idle = by (j .stage) (g .stage)
+  when-idle e = by (g .stage)
     where
-      by : (s : Stage) → ByStage p τ j s → isIdle s ≡ true → Idles j
-      by Idle b e = b
-      by Waiting b e = absurd (true≢false (sym e))
-      by Running b e = absurd (true≢false (sym e))
-
-  pub when-waiting : isWaiting (j .stage) ≡ true → Rests j
-  when-waiting = by (j .stage) (g .stage)
-    where
-      by : (s : Stage) → ByStage p τ j s → isWaiting s ≡ true → Rests j
-      by Idle b e = absurd (true≢false (sym e))
-      by Waiting b e = b
-      by Running b e = absurd (true≢false (sym e))
+      by : ByStage p τ j (j .stage) → Idles j
+      by (is-idle q b) = b
+      by (is-waiting q b) = absurd (true≢false (sym e ∙ ap isIdle q))
+      by (is-running q b) = absurd (true≢false (sym e ∙ ap isIdle q))
 
   pub when-running : isRunning (j .stage) ≡ true → Runs p τ j
-  when-running = by (j .stage) (g .stage)
+  when-running e = by (g .stage)
     where
-      by : (s : Stage) → ByStage p τ j s → isRunning s ≡ true → Runs p τ j
-      by Idle b e = absurd (true≢false (sym e))
-      by Waiting b e = absurd (true≢false (sym e))
-      by Running b e = b
+      by : ByStage p τ j (j .stage) → Runs p τ j
+      by (is-idle q b) = absurd (true≢false (sym e ∙ ap isRunning q))
+      by (is-waiting q b) = absurd (true≢false (sym e ∙ ap isRunning q))
+      by (is-running q b) = b
 
   pub when-not-running : isRunning (j .stage) ≡ false → Rests j
-  when-not-running = by (j .stage) (g .stage)
+  when-not-running e = by (g .stage)
     where
-      by : (s : Stage) → ByStage p τ j s → isRunning s ≡ false → Rests j
-      by Idle b e = b .rests
-      by Waiting b e = b
-      by Running b e = absurd (true≢false e)
+      by : ByStage p τ j (j .stage) → Rests j
+      by (is-idle q b) = b .rests
+      by (is-waiting q b) = b
+      by (is-running q b) = absurd (true≢false (sym (ap isRunning q) ∙ e))
+
+  pub when-waiting : isWaiting (j .stage) ≡ true → Rests j
+  when-waiting e = when-not-running (waits-not-runs (j .stage) e)
+
+  pub when-good : Staged (j .stage)
+  when-good = by (g .stage)
+    where
+      by : ByStage p τ j (j .stage) → Staged (j .stage)
+      by (is-idle q b) i w = absurd (true≢false (sym (ap isIdle q) ∙ i))
+      by (is-waiting q b) i w = absurd (true≢false (sym (ap isWaiting q) ∙ w))
+      by (is-running q b) i w = ap isRunning q
 
   pub held-lt : j .held < 2 ^ p
-  held-lt = by (j .stage) (g .stage)
+  held-lt = by (g .stage)
     where
-      by : (s : Stage) → ByStage p τ j s → j .held < 2 ^ p
-      by Idle b = rw (b .rests .none) (pow-pos p)
-      by Waiting b = rw (b .none) (pow-pos p)
-      by Running b = b .cache
+      by : ByStage p τ j (j .stage) → j .held < 2 ^ p
+      by (is-idle q b) = rw (b .rests .none) (pow-pos p)
+      by (is-waiting q b) = rw (b .none) (pow-pos p)
+      by (is-running q b) = b .cache
 
 pub busy-lt : {m : Machine} → GoodState m → busy m < 2 ^ P (m .table)
 unfolding busy

@@ -1,7 +1,7 @@
 -- From the test of refusal 14 to the conditions of a state part by part, and back.
 use Prim.Native.Nat.{ℕ, suc, _-_, _^_, _<_, _≤_}
 use mathlib.Core.Path.{_≡_, refl, sym}
-use mathlib.Core.Bool.{Bool, true, _&&_, _||_, true≢false, or-true}
+use mathlib.Core.Bool.{Bool, true, false, cond, _&&_, _||_, true≢false, or-true}
 use native.Mathlib.Omega.{arith}
 use native.Mathlib.Nat.{mod-lt, mod-eq-of-lt}
 use native.Mathlib.Decide.{decLe}
@@ -20,12 +20,11 @@ use Rattle.table.proofs.Good.{good-of}
 use Rattle.sets.specs.Sets.{size, below, without}
 use Rattle.sets.proofs.Unions.{all-apart, apart-all}
 use Rattle.machine.specs.declared.Stage.{Stage}
-use Rattle.machine.specs.declared.Stage.the-variants.{Idle, Waiting, Running}
 use Rattle.machine.specs.declared.Job.{Job}
 use Rattle.machine.specs.declared.Machine.{Machine}
-use Rattle.machine.specs.Jobs.{isIdle, noJob, job, running}
-use Rattle.machine.specs.Conditions.{isNoTask, isNoJob, hasNothing, goodStage, goodJob, goodState}
-use Rattle.machine.proofs.StateParts.{Rests, ByStage, GoodJob, GoodState}
+use Rattle.machine.specs.Jobs.{isIdle, isWaiting, isRunning, noJob, job, running}
+use Rattle.machine.specs.Conditions.{isNoTask, isNoJob, hasNothing, idlesWell, runsWell, goodStage, goodJob, goodState}
+use Rattle.machine.proofs.StateParts.{Rests, Runs, ByStage, is-idle, is-waiting, is-running, GoodJob, GoodState, idle-is, waiting-is, running-is}
 
 -- all of x is below p
 below-lt : (x p : ℕ) → without x (below p) ≡ 0 → x < 2 ^ p
@@ -47,11 +46,6 @@ no-task τ e =
       a = record { 0 = eqb-true (A τ) 0 (dtc .1) i };
     }
 
-pub idle-is : (s : Stage) → isIdle s ≡ true → s ≡ Idle
-idle-is Idle e = refl
-idle-is Waiting e = absurd (true≢false (sym e))
-idle-is Running e = absurd (true≢false (sym e))
-
 no-job : (j : Job) → isNoJob j ≡ true → j ≡ noJob
 no-job j e =
     let sar = both _ _ e in
@@ -71,12 +65,8 @@ rests j e =
     let b = both _ _ e in
     record { none = eqb-true (j .held) 0 (b .0); unrun = eqb-true (j .ran) 0 (b .1) }
 
-by-stage : (p : ℕ) (τ : Task) (j : Job) (s : Stage) → goodStage p τ j s ≡ true → ByStage p τ j s
-by-stage p τ j Idle e =
-    let b = both _ _ e in
-    record { rests = rests j (b .0); old = leb-true 1 (j .age) (b .1) }
-by-stage p τ j Waiting e = rests j e
-by-stage p τ j Running e =
+runs-of : (p : ℕ) (τ : Task) (j : Job) → runsWell p τ j ≡ true → Runs p τ j
+runs-of p τ j e =
     let b = both _ _ e in
     let c = both _ _ (b .0) in
     let d = both _ _ (c .0) in
@@ -86,6 +76,18 @@ by-stage p τ j Running e =
       count = eqb-true (size mostPartitions (j .held)) (A τ) (c .1);
       cache = below-lt (j .held) p (eqb-true (without (j .held) (below p)) 0 (b .1));
     }
+
+by-stage : (p : ℕ) (τ : Task) (j : Job) (s : Stage) → goodStage p τ j s ≡ true → ByStage p τ j s
+by-stage p τ j s = by (isIdle s) (isWaiting s) (isRunning s) refl refl refl
+  where
+    by : (a b c : Bool) → isIdle s ≡ a → isWaiting s ≡ b → isRunning s ≡ c
+        → cond a (idlesWell j) (cond b (hasNothing j) (cond c (runsWell p τ j) false)) ≡ true → ByStage p τ j s
+    by true b c i w r e =
+        let h = both _ _ e in
+        is-idle (idle-is s i) (record { rests = rests j (h .0); old = leb-true 1 (j .age) (h .1) })
+    by false true c i w r e = is-waiting (waiting-is s w) (rests j e)
+    by false false true i w r e = is-running (running-is s r) (runs-of p τ j e)
+    by false false false i w r e = absurd (true≢false (sym e))
 
 pub job-good : (p : ℕ) (τ : Task) (j : Job) → goodJob p τ j ≡ true → GoodJob p τ j
 unfolding goodJob
@@ -98,10 +100,11 @@ rests-test : (j : Job) → Rests j → hasNothing j ≡ true
 rests-test j r = rw (r .none, r .unrun)
 
 stage-test : (p : ℕ) (τ : Task) (j : Job) (s : Stage) → ByStage p τ j s → goodStage p τ j s ≡ true
-stage-test p τ j Idle g = rw (rests-test j (g .rests), le-leb 1 (j .age) (g .old))
-stage-test p τ j Waiting g = rests-test j g
-stage-test p τ j Running g =
+stage-test p τ j s (is-idle q g) = rw (q, rests-test j (g .rests), le-leb 1 (j .age) (g .old))
+stage-test p τ j s (is-waiting q g) = rw q (rests-test j g)
+stage-test p τ j s (is-running q g) =
     rw (
+      q,
       le-leb (j .ran) (C τ - 1) (g .short),
       le-leb (j .ran) (j .age) (g .younger),
       eq-eqb (size mostPartitions (j .held)) (A τ) (g .count),

@@ -1,7 +1,7 @@
 -- Step 5 by one pass over the tasks from the lowest: each turn is a start, or nothing, or the end of the step.
 use Prim.Native.Nat.{ℕ, suc, _+_, _<_, _≤_}
 use mathlib.Core.Path.{_≡_, refl, sym, _∙_, ap}
-use mathlib.Core.Bool.{true, false, cond, _&&_, true≢false}
+use mathlib.Core.Bool.{true, false, cond}
 use mathlib.Core.List.{List}
 use mathlib.Core.Logic.{_≢_}
 use native.Mathlib.Numerals.{add-one}
@@ -18,23 +18,12 @@ use Rattle.sets.specs.Sets.{below, without}
 use Rattle.sets.specs.Choice.{choice}
 use Rattle.sets.proofs.Holders.{union-take}
 use Rattle.sets.proofs.Same.{without-both}
-use Rattle.machine.specs.declared.Stage.{Stage}
-use Rattle.machine.specs.declared.Stage.the-variants.{Idle, Waiting, Running}
 use Rattle.machine.specs.declared.Job.{Job}
 use Rattle.machine.specs.declared.Machine.{Machine}
 use Rattle.machine.specs.declared.Walk.{Walk}
-use Rattle.machine.specs.Jobs.{isWaiting, isRunning, noJob, job, waits, runs, running, busy, idlePartitions}
+use Rattle.machine.specs.Jobs.{noJob, job, waits, runs, running, busy, idlePartitions}
 use Rattle.machine.specs.Steps.{firstWaiting, begun, start, startFirst, startWaiting}
-
-waits-not-runs : (s : Stage) → isWaiting s ≡ true → isRunning s ≡ false
-waits-not-runs Idle e = refl
-waits-not-runs Waiting e = refl
-waits-not-runs Running e = absurd (true≢false (sym e))
-
-pub not-both : (s : Stage) → isWaiting s && isRunning s ≡ false
-not-both Idle = refl
-not-both Waiting = refl
-not-both Running = refl
+use Rattle.machine.proofs.StateParts.{waits-not-runs}
 
 -- what holds below i, and of i
 pub below-suc : (Q : ℕ → Type 0) (i : ℕ) → ((j : ℕ) → j < i → Q j) → Q i → (j : ℕ) → j < suc i → Q j

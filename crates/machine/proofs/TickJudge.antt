@@ -14,7 +14,7 @@ use Rattle.maths.specs.Tasks.{every, lowest}
 use Rattle.maths.proofs.Tasks.{every-of}
 use Rattle.maths.proofs.Tests.{both, same-truth}
 use Rattle.table.specs.Limits.{mostTasks}
-use Rattle.table.specs.Tasks.{M}
+use Rattle.table.specs.Tasks.{τ, M}
 use Rattle.table.specs.Refused.{refusal}
 use Rattle.table.proofs.Good.{good-sizes, sizes-accepted, row-accepted}
 use Rattle.table.proofs.Good as good
@@ -22,15 +22,16 @@ use Rattle.sets.specs.Families.{allApart}
 use Rattle.sets.proofs.Unions.{apart-all}
 use Rattle.machine.specs.declared.Look.{Look}
 use Rattle.machine.specs.declared.Machine.{Machine}
+use Rattle.machine.specs.declared.Past.{Past}
 use Rattle.machine.specs.declared.Ticked.{Ticked}
 use Rattle.machine.specs.Jobs.{job, running}
 use Rattle.machine.specs.Conditions.{goodState}
-use Rattle.machine.specs.Passes.{refuses, foundGood, firstAbove, foundRefusal}
+use Rattle.machine.specs.Passes.{refuses, pastWith, pastNone, foundGood, firstAbove, foundRefusal}
 use Rattle.machine.specs.Tick.{tickRules, firstGiven, tickRefusal, accepted, tick}
 use Rattle.machine.proofs.StateParts.{GoodState}
 use Rattle.machine.proofs.StateTest.{state-good, job-test}
 use Rattle.machine.proofs.StateLoops.{goodTask, zeroEntry, running-all}
-use Rattle.machine.proofs.TickTurns.{or-none}
+use Rattle.machine.proofs.TickTurns.{past-more}
 use Rattle.machine.proofs.TickRules.{givenRefusal, first-is}
 use Rattle.machine.proofs.TickAllowed.{AllAllowed, first-none}
 use Rattle.machine.proofs.TickLook.{lookTo, Looked, looked, looks-good}
@@ -43,10 +44,12 @@ module _ (m : Machine) where
   pub zero-none : (k : ℕ) → k ≤ m .table .n → true ≡ zeroTo m k
   zero-none k h = sym (every-of (λ j. leb j (m .table .n) || zeroEntry m j) k (λ i l. rw (le-leb (suc i) (m .table .n) (omega arith))))
 
-  pub zero-more : (k past marks : ℕ) → m .table .n ≤ k → eqb past 0 ≡ zeroTo m k → eqb marks 0 ≡ zeroEntry m (suc k)
-      → eqb (bitOr past marks) 0 ≡ zeroTo m (k + 1)
+  pub zero-more : (k : ℕ) (past : Past) → m .table .n ≤ k → pastNone past ≡ zeroTo m k
+      → pastNone (pastWith (τ (m .table) (suc k)) (job m (suc k)) past) ≡ zeroTo m (k + 1)
   unfolding every
-  zero-more k past marks h e w = rw (add-one k, or-none past marks, e, w, lt-leb (suc k) (m .table .n) (omega arith))
+  zero-more k past h e =
+      past-more (τ (m .table) (suc k)) (job m (suc k)) past
+      ∙ (ap (λ (b : Bool). b && zeroEntry m (suc k)) e ∙ rw (add-one k, lt-leb (suc k) (m .table .n) (omega arith)))
 
 module _ (m : Machine) (released finished past : ℕ) (len : length (m .table .rows) ≡ mostTasks) (zeros : eqb past 0 ≡ zeroTo m mostTasks) where
   abbrev found : Look

@@ -1,7 +1,7 @@
 -- A task that idles and is in neither set: the first pass goes on with what it found before, and the second changes the task's age only.
 use Prim.Native.Nat.{ℕ, _+_}
 use mathlib.Core.Path.{_≡_, refl, sym, _∙_}
-use mathlib.Core.Bool.{Bool, true, false, cond, _&&_, true≢false, and-false}
+use mathlib.Core.Bool.{Bool, true, false, cond, _&&_, and-false}
 use native.Mathlib.Omega.{arith}
 use borrow.Author.Tests.{eqb-true, not-true}
 use lib.Bits.{bitOr, or-zero-r}
@@ -11,30 +11,23 @@ use Rattle.table.specs.declared.Task.{Task}
 use Rattle.table.specs.Refused.{rowRefusal}
 use Rattle.sets.specs.TaskSets.{hasTask}
 use Rattle.sets.proofs.Wheres.{task-or}
-use Rattle.machine.specs.declared.Stage.{Stage}
-use Rattle.machine.specs.declared.Stage.the-variants.{Idle, Waiting, Running}
 use Rattle.machine.specs.declared.Job.{Job}
 use Rattle.machine.specs.declared.Look.{Look}
 use Rattle.machine.specs.declared.Walk.{Walk}
-use Rattle.machine.specs.Jobs.{isIdle, isRunning}
+use Rattle.machine.specs.Jobs.{Idle, isIdle, isRunning}
 use Rattle.machine.specs.Conditions.{goodJob}
 use Rattle.machine.specs.Steps.{older}
 use Rattle.machine.specs.Passes.{isLeft, givenNumber, firstOf, admits, lookMore, walkBy, walkWith}
-use Rattle.machine.proofs.StateParts.{ByStage, when-idle}
-use Rattle.machine.proofs.StateTest.{idle-is, job-good}
+use Rattle.machine.proofs.StateParts.{idle-is, when-idle, when-not-running}
+use Rattle.machine.proofs.StateTest.{job-good}
 use Rattle.machine.proofs.TickRules.{neither}
 
 -- a good job that does not run holds nothing, and counts for nothing
 pub holds-none : (p : ℕ) (τ : Task) (j : Job) (l : Look) → admits p τ j l ≡ true → isRunning (j .stage) ≡ false → j .held ≡ 0
-holds-none p τ j l e =
+holds-none p τ j l e n =
     let all = both (l .good && eqb (rowRefusal p τ) 0 && goodJob p τ j) _ e in
     let good = both (l .good && eqb (rowRefusal p τ) 0) _ (all .0) in
-    by (j .stage) (job-good p τ j (good .1) .stage)
-  where
-    by : (s : Stage) → ByStage p τ j s → isRunning s ≡ false → j .held ≡ 0
-    by Idle g n = omega arith
-    by Waiting g n = omega arith
-    by Running g n = absurd (true≢false n)
+    when-not-running (job-good p τ j (good .1)) n .none
 
 pub look-still : (k : ℕ) (τ : Task) (j : Job) (r f : Bool) (l : Look) → isRunning (j .stage) ≡ false → j .held ≡ 0
     → record {

@@ -16,13 +16,13 @@ use Rattle.table.specs.Tasks.{M, P, τ}
 use Rattle.machine.specs.declared.Job.{Job}
 use Rattle.machine.specs.declared.Look.{Look}
 use Rattle.machine.specs.declared.Machine.{Machine}
+use Rattle.machine.specs.declared.Past.{Past}
 use Rattle.machine.specs.declared.Walk.{Walk}
 use Rattle.machine.specs.Jobs.{noJob, job}
 use Rattle.machine.specs.Conditions.{goodState}
-use Rattle.machine.specs.Passes.{lookStart, lookWith, foundGood, foundRefusal, walkStart, walkWith}
+use Rattle.machine.specs.Passes.{lookStart, lookWith, pastStart, pastWith, pastNone, foundGood, foundRefusal, walkStart, walkWith}
 use Rattle.machine.specs.Tick.{tickRefusal, accepted, tick}
 use Rattle.machine.proofs.StateTest.{state-good}
-use Rattle.machine.proofs.StateLoops.{zeroEntry}
 use Rattle.machine.proofs.TickTurns.{good-ran, good-age}
 use Rattle.machine.proofs.TickLook.{lookTo, look-none, look-more, look-partitions, look-small, Looked}
 use Rattle.machine.proofs.TickJudge.{zeroTo, zero-none, zero-more, found-good, found-looked, found-refusal}
@@ -49,21 +49,22 @@ module _ (m : Machine) (released finished : ℕ) where
     judging-more next l e = record { all = j .all; low = omega arith; found = e ∙ rw (j .found) (look-more m released finished k) }
 
   -- the pass over the entries past n, at entry k + 1
-  pub record Ending (n k : ℕ) (look : Look) (past : ℕ) : Type 0 where
+  pub record Ending (n k : ℕ) (look : Look) (past : Past) : Type 0 where
     pub all : n ≡ entriesOf m released finished
     pub found : look ≡ seen m released finished
     pub from : n ≤ k
     pub to : k ≤ mostTasks
-    pub zeros : eqb past 0 ≡ zeroTo m k
+    pub zeros : pastNone past ≡ zeroTo m k
 
-  pub ending-none : (n k : ℕ) (look : Look) → Judging n k look → n ≤ k → Ending n k look 0
-  ending-none n k look j h =
+  pub ending-none : (n k : ℕ) (look : Look) (past : Past) → Judging n k look → n ≤ k → past ≡ pastStart → Ending n k look past
+  ending-none n k look past j h e =
       let at-n : k ≡ entriesOf m released finished = omega arith in
-      record { all = j .all; found = j .found ∙ ap (lookTo m released finished) at-n; from = h; to = omega arith; zeros = zero-none m k (omega arith) }
+      record { all = j .all; found = j .found ∙ ap (lookTo m released finished) at-n; from = h; to = omega arith; zeros = ap pastNone e ∙ zero-none m k (omega arith) }
 
-  pub ending-more : (n k : ℕ) (look : Look) (past marks : ℕ) → Ending n k look past → k < mostTasks → eqb marks 0 ≡ zeroEntry m (suc k) → Ending n (k + 1) look (bitOr past marks)
-  ending-more n k look past marks e l w =
-      record { all = e .all; found = e .found; from = omega arith; to = omega arith; zeros = zero-more m k past marks (omega arith) (e .zeros) w }
+  pub ending-more : (n k : ℕ) (look : Look) (past next : Past) → Ending n k look past → k < mostTasks
+      → next ≡ pastWith (τ (m .table) (suc k)) (job m (suc k)) past → Ending n (k + 1) look next
+  ending-more n k look past next e l w =
+      record { all = e .all; found = e .found; from = omega arith; to = omega arith; zeros = ap pastNone w ∙ zero-more m k past (omega arith) (e .zeros) }
 
   -- the second pass, at task i + 1 of those that move
   pub record Moving (refused : Refusal) (moved : ℕ) (jobs : List Job) (walk : Walk) (i : ℕ) : Type 0 where
@@ -77,11 +78,11 @@ module _ (m : Machine) (released finished : ℕ) where
     pub walked : walk ≡ turnsOf m released finished i
     pub stored : jobs ≡ jobsTo m released finished i
 
-  module _ (rows : length (m .table .rows) ≡ mostTasks) (n k : ℕ) (look : Look) (past : ℕ) (e : Ending n k look past) (over : mostTasks ≤ k) where
+  module _ (rows : length (m .table .rows) ≡ mostTasks) (n k : ℕ) (look : Look) (all : Past) (e : Ending n k look all) (over : mostTasks ≤ k) (past : ℕ) (marks : eqb past 0 ≡ pastNone all) where
     zeros : eqb past 0 ≡ zeroTo m mostTasks
     zeros =
         let at-end : k ≡ mostTasks = omega arith in
-        rw at-end at (e .zeros)
+        marks ∙ (rw at-end at (e .zeros))
 
     pub ending-few : foundGood look past (M (m .table)) ≡ true → m .table .n ≤ mostTasks
     ending-few w = state-good m rows (sym (found-good m released finished past rows zeros) ∙ (rw (e .found) at w)) .table .few

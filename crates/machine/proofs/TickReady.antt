@@ -14,23 +14,16 @@ use Rattle.table.specs.Tasks.{P, τ}
 use Rattle.sets.specs.Families.{unionOf}
 use Rattle.sets.specs.TaskSets.{hasTask}
 use Rattle.sets.proofs.Unions.{union-same}
-use Rattle.machine.specs.declared.Stage.{Stage}
-use Rattle.machine.specs.declared.Stage.the-variants.{Idle, Waiting, Running}
 use Rattle.machine.specs.declared.Job.{Job}
 use Rattle.machine.specs.declared.Machine.{Machine}
 use Rattle.machine.specs.Jobs.{isIdle, isWaiting, isRunning, job, waits, runs, running, busy}
 use Rattle.machine.specs.Passes.{readiedJob}
 use Rattle.machine.specs.Tick.{readied}
 use Rattle.machine.proofs.Jobs.{readied-table, readied-job, readied-pass, for-past, for-length}
-use Rattle.machine.proofs.StateParts.{GoodJob, when-idle, when-waiting}
+use Rattle.machine.proofs.StateParts.{idle-not-runs, GoodJob, when-idle, when-waiting}
 use Rattle.machine.proofs.TickAllowed.{Allowed}
 use Rattle.machine.proofs.TickJudge.{Accepts}
 use Rattle.machine.proofs.TickLook.{kept, stays}
-
-idle-not-runs : (s : Stage) → isIdle s ≡ true → isRunning s ≡ false
-idle-not-runs Idle e = refl
-idle-not-runs Waiting e = refl
-idle-not-runs Running e = absurd (true≢false (sym e))
 
 -- one task
 ready-held : (task : Task) (j : Job) (r f : Bool) → readiedJob task r f j .held ≡ cond f 0 (j .held)

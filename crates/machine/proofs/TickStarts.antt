@@ -24,7 +24,8 @@ use Rattle.machine.specs.declared.Walk.{Walk}
 use Rattle.machine.specs.Jobs.{isRunning, job, waits, running, idlePartitions}
 use Rattle.machine.specs.Steps.{firstWaiting, fits, start, startFirst, startWaiting}
 use Rattle.machine.specs.Passes.{tries, hasRoom, walkGo, walkBy}
-use Rattle.machine.proofs.TickFive.{not-both, below-suc, start-turn, walked, walked-none, walked-done, walked-left, walked-by, walked-go, running-go, idle-go}
+use Rattle.machine.proofs.StateParts.{not-both}
+use Rattle.machine.proofs.TickFive.{below-suc, start-turn, walked, walked-none, walked-done, walked-left, walked-by, walked-go, running-go, idle-go}
 
 module _ (r : Machine) (w : ℕ → Walk) (late : ℕ → ℕ) where
   -- a task that waits before the step and is running when the pass has come to it

@@ -1,6 +1,6 @@
 -- Refusal 14: the conditions of a state, clause by clause as document 01 lists them.
 use Prim.Native.Nat.{ℕ, suc, _-_}
-use mathlib.Core.Bool.{Bool, true, false, _&&_, _||_}
+use mathlib.Core.Bool.{Bool, true, false, cond, _&&_, _||_}
 use lib.Dec.{ltb, leb, eqb}
 use Rattle.maths.specs.Tasks.{every}
 use Rattle.table.specs.declared.Task.{Task}
@@ -10,10 +10,9 @@ use Rattle.table.specs.Refused.{refusal}
 use Rattle.sets.specs.Sets.{size, below, without}
 use Rattle.sets.specs.Families.{allApart}
 use Rattle.machine.specs.declared.Stage.{Stage}
-use Rattle.machine.specs.declared.Stage.the-variants.{Idle, Waiting, Running}
 use Rattle.machine.specs.declared.Job.{Job}
 use Rattle.machine.specs.declared.Machine.{Machine}
-use Rattle.machine.specs.Jobs.{isIdle, job, running}
+use Rattle.machine.specs.Jobs.{isIdle, isWaiting, isRunning, job, running}
 
 abbrev pub isNoTask : Task → Bool
 isNoTask τ = eqb (D τ) 0 && eqb (T τ) 0 && eqb (C τ) 0 && eqb (A τ) 0
@@ -25,15 +24,23 @@ isNoJob j = isIdle (j .stage) && eqb (j .age) 0 && eqb (j .ran) 0 && eqb (j .hel
 abbrev pub hasNothing : Job → Bool
 hasNothing j = eqb (j .held) 0 && eqb (j .ran) 0
 
--- what is asked of a job by its stage, on a cache of p partitions
-abbrev pub goodStage : ℕ → Task → Job → Stage → Bool
-goodStage p τ j Idle = hasNothing j && leb 1 (j .age)
-goodStage p τ j Waiting = hasNothing j
-goodStage p τ j Running =
+abbrev pub idlesWell : Job → Bool
+idlesWell j = hasNothing j && leb 1 (j .age)
+
+-- what is asked of a job that runs, on a cache of p partitions
+abbrev pub runsWell : ℕ → Task → Job → Bool
+runsWell p τ j =
     leb (j .ran) (C τ - 1)
     && leb (j .ran) (j .age)
     && eqb (size mostPartitions (j .held)) (A τ)
     && eqb (without (j .held) (below p)) 0
+
+-- what is asked of a job by its stage: it is idle, waiting or running
+abbrev pub goodStage : ℕ → Task → Job → Stage → Bool
+goodStage p τ j s =
+    cond (isIdle s) (idlesWell j)
+    (cond (isWaiting s) (hasNothing j)
+    (cond (isRunning s) (runsWell p τ j) false))
 
 unfoldable pub goodJob : ℕ → Task → Job → Bool
 goodJob p τ j = leb (j .age) (T τ) && goodStage p τ j (j .stage)

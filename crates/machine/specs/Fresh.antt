@@ -7,11 +7,10 @@ use Rattle.table.specs.declared.Table.{Table}
 use Rattle.table.specs.Limits.{mostTasks}
 use Rattle.table.specs.Tasks.{noTask, τ, T}
 use Rattle.table.specs.Refused.{refusal}
-use Rattle.machine.specs.declared.Stage.the-variants.{Idle}
 use Rattle.machine.specs.declared.Job.{Job}
 use Rattle.machine.specs.declared.Machine.{Machine}
 use Rattle.machine.specs.declared.SetUp.{SetUp}
-use Rattle.machine.specs.Jobs.{noJob}
+use Rattle.machine.specs.Jobs.{Idle, noJob}
 
 -- the table with its entries past n zero
 abbrev pub trimmed : Table → Table

@@ -1,7 +1,8 @@
 -- The names for what a state holds: the job of task k, who runs, which partitions are busy and idle.
 -- Running jobs and idle partitions are counted from the jobs and what they hold; no count is stored.
 use Prim.Native.Nat.{ℕ, suc}
-use mathlib.Core.Bool.{Bool, true, false, cond}
+use mathlib.Core.Bool.{Bool, cond}
+use lib.Dec.{eqb}
 use lib.ListN.{set}
 use Rattle.maths.specs.Sums.{Σ}
 use Rattle.maths.specs.Tasks.{entry, lowest, tabulate}
@@ -11,24 +12,27 @@ use Rattle.table.specs.Tasks.{P}
 use Rattle.sets.specs.Sets.{size, below, without}
 use Rattle.sets.specs.Families.{unionOf}
 use Rattle.machine.specs.declared.Stage.{Stage}
-use Rattle.machine.specs.declared.Stage.the-variants.{Idle, Waiting, Running}
 use Rattle.machine.specs.declared.Job.{Job}
 use Rattle.machine.specs.declared.Machine.{Machine}
 
+-- the three stages, as numbers
+abbrev pub Idle : Stage
+Idle = record { 0 = 0 }
+
+abbrev pub Waiting : Stage
+Waiting = record { 0 = 1 }
+
+abbrev pub Running : Stage
+Running = record { 0 = 2 }
+
 abbrev pub isIdle : Stage → Bool
-isIdle Idle = true
-isIdle Waiting = false
-isIdle Running = false
+isIdle s = eqb (s .0) 0
 
 abbrev pub isWaiting : Stage → Bool
-isWaiting Idle = false
-isWaiting Waiting = true
-isWaiting Running = false
+isWaiting s = eqb (s .0) 1
 
 abbrev pub isRunning : Stage → Bool
-isRunning Idle = false
-isRunning Waiting = false
-isRunning Running = true
+isRunning s = eqb (s .0) 2
 
 abbrev pub noJob : Job
 noJob = record { stage = Idle; age = 0; ran = 0; held = 0 }

@@ -9,16 +9,17 @@ use Rattle.table.specs.declared.Task.{Task}
 use Rattle.table.specs.declared.Table.{Table}
 use Rattle.table.specs.declared.Refusal.{Refusal}
 use Rattle.table.specs.Limits.{mostTasks, mostPartitions}
-use Rattle.table.specs.Tasks.{D, T, C, A}
+use Rattle.table.specs.Tasks.{D, T, C, A, noTask}
 use Rattle.table.specs.Refused.{sizesRefusal, rowRefusal}
 use Rattle.sets.specs.Sets.{size, below, without, disjoint}
 use Rattle.sets.specs.TaskSets.{hasTask, taskBit}
 use Rattle.sets.specs.Choice.{choice}
 use Rattle.machine.specs.declared.Job.{Job}
 use Rattle.machine.specs.declared.Look.{Look}
+use Rattle.machine.specs.declared.Past.{Past}
 use Rattle.machine.specs.declared.Walk.{Walk}
 use Rattle.machine.specs.Jobs.{isIdle, isWaiting, isRunning, noJob}
-use Rattle.machine.specs.Conditions.{goodJob}
+use Rattle.machine.specs.Conditions.{isNoTask, isNoJob, goodJob}
 use Rattle.machine.specs.Steps.{older, ended, awaiting, begun}
 
 -- the job of a task after steps 1 and 2, and after step 4, from its job before and whether it finished and was released
@@ -86,6 +87,28 @@ lookMore k τ j released finished l =
 unfoldable pub lookWith : ℕ → ℕ → Task → Job → ℕ → ℕ → Look → Look
 lookWith k p τ j released finished l =
     cond (admits p τ j l) (lookMore k τ j (hasTask released k) (hasTask finished k) l) (lookBad l)
+
+-- the entries past n, put together: all of them are zero exactly where this is
+abbrev pub pastStart : Past
+pastStart = record { row = noTask; job = noJob }
+
+abbrev pub orTask : Task → Task → Task
+orTask a b = record { d = bitOr (D a) (D b); t = bitOr (T a) (T b); c = bitOr (C a) (C b); a = record { 0 = bitOr (A a) (A b) } }
+
+abbrev pub orJob : Job → Job → Job
+orJob a b =
+    record {
+      stage = record { 0 = bitOr (a .stage .0) (b .stage .0) };
+      age = bitOr (a .age) (b .age);
+      ran = bitOr (a .ran) (b .ran);
+      held = bitOr (a .held) (b .held);
+    }
+
+abbrev pub pastWith : Task → Job → Past → Past
+pastWith τ j p = record { row = orTask (p .row) τ; job = orJob (p .job) j }
+
+abbrev pub pastNone : Past → Bool
+pastNone p = isNoTask (p .row) && isNoJob (p .job)
 
 -- refusal 14 is not given, by what the first pass found of tasks 1 to n and of the entries past n
 abbrev pub foundGood : Look → ℕ → ℕ → Bool

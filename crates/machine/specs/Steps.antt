@@ -9,10 +9,9 @@ use Rattle.table.specs.Limits.{mostTasks}
 use Rattle.table.specs.Tasks.{M, τ, D, T, A}
 use Rattle.sets.specs.TaskSets.{hasTask, tasksWhere}
 use Rattle.sets.specs.Choice.{choice}
-use Rattle.machine.specs.declared.Stage.the-variants.{Idle, Waiting, Running}
 use Rattle.machine.specs.declared.Job.{Job}
 use Rattle.machine.specs.declared.Machine.{Machine}
-use Rattle.machine.specs.Jobs.{isRunning, job, idles, waits, runs, running, idlePartitions, idleCount}
+use Rattle.machine.specs.Jobs.{Idle, Waiting, Running, isRunning, job, idles, waits, runs, running, idlePartitions, idleCount}
 
 -- the job of each task k from 1 to n changed by f k
 unfoldable pub forTasks : (ℕ → Job → Job) → Machine → Machine

@@ -5,10 +5,11 @@ ghost use Prim.Native.Nat.{_<_, _≤_};
 ghost use lib.Dec.{eqb};
 ghost use Rattle.table.specs.Limits.{mostTasks, mostPartitions, longestPeriod};
 ghost use Rattle.machine.specs.Jobs.{isRunning};
-ghost use Rattle.machine.specs.Conditions.{isNoTask, isNoJob};
-ghost use Rattle.machine.specs.Passes.{lookStart, lookBad, admits, lookMore, lookWith, foundGood, foundRefusal};
+ghost use Rattle.machine.specs.Passes.{lookStart, lookBad, admits, lookMore, lookWith, pastStart, pastWith, pastNone, foundGood, foundRefusal};
 use crate::Job;
 use crate::Look;
+use crate::Past;
+use crate::Stage;
 use crate::refusing::first_above;
 use crate::refusing::first_of;
 use crate::refusing::number_of;
@@ -37,15 +38,9 @@ impl Look {
     fn bad(self) -> Look
         ensures { λ r. ⌜ r ≡ lookBad self ⌝ }
     {
-        let refused = self.refused;
-        Look {
-            good: false,
-            refused: refused,
-            running: self.running,
-            held: self.held,
-            stays: self.stays,
-            busy: self.busy,
-        }
+        let mut look = self;
+        look.good = false;
+        look
     }
 
     // The state so far is good, and the row and the job of this task are, and it holds nothing that those before hold.
@@ -70,37 +65,22 @@ impl Look {
         requires { ⌜ (self .running < mostTasks) × (self .stays < mostTasks) × (j .ran ≤ longestPeriod) × (isRunning (j .stage) ≡ false → j .held ≡ 0) ⌝ }
         ensures { λ r. ⌜ r ≡ lookMore k task j released finished self ⌝ }
     {
-        let s = j.stage;
         let number = number_of(task, j, released, finished);
         let refused = first_of(self.refused, number, k);
-        if !s.is_running() {
-            return Look {
-                good: true,
-                refused: refused,
-                running: self.running,
-                held: self.held,
-                stays: self.stays,
-                busy: self.busy,
-            };
+        let mut look = self;
+        look.good = true;
+        look.refused = refused;
+        if !j.stage.is_running() {
+            return look;
         }
+        look.running = self.running + 1;
+        look.held = self.held | j.held;
         if finished {
-            return Look {
-                good: true,
-                refused: refused,
-                running: self.running + 1,
-                held: self.held | j.held,
-                stays: self.stays,
-                busy: self.busy,
-            };
+            return look;
         }
-        Look {
-            good: true,
-            refused: refused,
-            running: self.running + 1,
-            held: self.held | j.held,
-            stays: self.stays + 1,
-            busy: self.busy | j.held,
-        }
+        look.stays = self.stays + 1;
+        look.busy = self.busy | j.held;
+        look
     }
 
     // Refusal 14 is not given, where `past` is 0 if the entries past n are.
@@ -151,13 +131,43 @@ fn wide(x: u32) -> u64
     x as u64
 }
 
-// 0 exactly where an entry past n is zero.
-pub(crate) fn marks(task: Task, j: Job) -> u64
-    ensures { λ r. ⌜ eqb r 0 ≡ (isNoTask task && isNoJob j) ⌝ }
-{
-    let s = j.stage;
-    let job = s.mark() | j.age | j.ran;
-    wide(task.d | task.t | task.c | task.a.0 | job) | j.held
+impl Past {
+    pub(crate) fn start() -> Past
+        ensures { λ r. ⌜ r ≡ pastStart ⌝ }
+    {
+        Past {
+            row: Task::none(),
+            job: Job::none(),
+        }
+    }
+
+    // An entry more.
+    pub(crate) fn with(self, task: Task, j: Job) -> Past
+        ensures { λ r. ⌜ r ≡ pastWith task j self ⌝ }
+    {
+        Past {
+            row: Task {
+                d: self.row.d | task.d,
+                t: self.row.t | task.t,
+                c: self.row.c | task.c,
+                a: Partitions(self.row.a.0 | task.a.0),
+            },
+            job: Job {
+                stage: Stage(self.job.stage.0 | j.stage.0),
+                age: self.job.age | j.age,
+                ran: self.job.ran | j.ran,
+                held: self.job.held | j.held,
+            },
+        }
+    }
+
+    // 0 exactly where all of them are zero.
+    pub(crate) fn marks(self) -> u64
+        ensures { λ r. ⌜ eqb r 0 ≡ pastNone self ⌝ }
+    {
+        let job = self.job.stage.0 | self.job.age | self.job.ran;
+        wide(self.row.d | self.row.t | self.row.c | self.row.a.0 | job) | self.job.held
+    }
 }
 
 // The refusal of a tick by what the first pass found, where `named` has the tasks of both sets.

@@ -7,14 +7,14 @@ mod tick;
 
 use table::Refusal;
 use table::Table;
+use table::Task;
 
-pub enum Stage {
-    Idle,
-    Waiting,
-    Running,
-}
+// 0 idle, 1 waiting, 2 running; no good state has another.
+#[repr(C)]
+pub struct Stage(pub u32);
 
 // Of a task's job: age counts ticks since its release, ran those that it has run; held is its set of partitions.
+#[repr(C)]
 pub struct Job {
     pub stage: Stage,
     pub age: u32,
@@ -22,6 +22,7 @@ pub struct Job {
     pub held: u64,
 }
 
+#[repr(C)]
 pub struct Machine {
     pub table: Table,
     pub jobs: [Job; Table::MOST],
@@ -55,6 +56,12 @@ struct Look {
     held: u64,
     stays: u32,
     busy: u64,
+}
+
+// What the entries past n have, put together: a zero row and a zero job where all are.
+struct Past {
+    row: Task,
+    job: Job,
 }
 
 // What a tick's second pass made so far: the job that it came to last; whether step 5 goes on, with how many running jobs, which

@@ -41,7 +41,7 @@ fn finished_job(task: Task, j: Job, finished: bool) -> Job
 {
     if finished {
         return Job {
-            stage: Stage::Idle,
+            stage: Stage::IDLE,
             age: older_age(j.age, task.t),
             ran: 0,
             held: 0,
@@ -56,7 +56,7 @@ fn released_job(j: Job, released: bool) -> Job
 {
     if released {
         return Job {
-            stage: Stage::Waiting,
+            stage: Stage::WAITING,
             age: 0,
             ran: j.ran,
             held: j.held,
@@ -70,8 +70,7 @@ fn is_late(task: Task, before: u32, j: Job) -> bool
     requires { ⌜ before ≤ longestPeriod ⌝ }
     ensures { λ r. ⌜ r ≡ isLate task before j ⌝ }
 {
-    let s = j.stage;
-    if s.is_idle() {
+    if j.stage.is_idle() {
         return false;
     }
     if before + 1 != task.d {
@@ -109,11 +108,10 @@ impl Walk {
     fn tries(self, j: Job) -> bool
         ensures { λ r. ⌜ r ≡ tries j self ⌝ }
     {
-        let s = j.stage;
         if !self.goes {
             return false;
         }
-        s.is_waiting()
+        j.stage.is_waiting()
     }
 
     // Fewer than M jobs run and at least A partitions are idle.
@@ -128,39 +126,35 @@ impl Walk {
 
     // The task starts.
     fn go(self, k: usize, task: Task, j: Job, late: u32) -> Walk
-        requires { ⌜ (self .running < mostTasks + mostTasks) × (task .a .0 ≤ self .room) ⌝ }
+        requires { ⌜ (self .goes ≡ true) × (self .running < mostTasks + mostTasks) × (task .a .0 ≤ self .room) ⌝ }
         ensures { λ r. ⌜ r ≡ walkGo k task j late self ⌝ }
     {
         let held = sets::choose(self.idle, task.a.0);
-        Walk {
-            job: Job {
-                stage: Stage::Running,
-                age: j.age,
-                ran: 0,
-                held: held,
-            },
-            goes: true,
-            running: self.running + 1,
-            idle: sets::without(self.idle, held),
-            room: self.room - task.a.0,
-            late: late,
-            started: self.started | sets::task_bit(k),
-        }
+        let mut w = self;
+        let job = Job {
+            stage: Stage::RUNNING,
+            age: j.age,
+            ran: 0,
+            held: held,
+        };
+        w.job = job;
+        w.running = self.running + 1;
+        w.idle = sets::without(self.idle, held);
+        w.room = self.room - task.a.0;
+        w.late = late;
+        w.started = self.started | sets::task_bit(k);
+        w
     }
 
     // The task does not start.
     fn by(self, goes: bool, j: Job, late: u32) -> Walk
         ensures { λ r. ⌜ r ≡ walkBy goes j late self ⌝ }
     {
-        Walk {
-            job: j,
-            goes: goes,
-            running: self.running,
-            idle: self.idle,
-            room: self.room,
-            late: late,
-            started: self.started,
-        }
+        let mut w = self;
+        w.job = j;
+        w.goes = goes;
+        w.late = late;
+        w
     }
 
     // Step 5, of task k with the job that steps 1, 2 and 4 left it.

@@ -17,11 +17,10 @@ use table::Task;
 fn given_10(j: Job, finished: bool) -> bool
     ensures { λ r. ⌜ r ≡ given10 j finished ⌝ }
 {
-    let s = j.stage;
     if !finished {
         return false;
     }
-    !s.is_running()
+    !j.stage.is_running()
 }
 
 // A running job, step 1 counted, has run C ticks and is not in finished.
@@ -29,8 +28,7 @@ fn given_11(task: Task, j: Job, finished: bool) -> bool
     requires { ⌜ j .ran ≤ longestPeriod ⌝ }
     ensures { λ r. ⌜ r ≡ given11 task j finished ⌝ }
 {
-    let s = j.stage;
-    if !s.is_running() {
+    if !j.stage.is_running() {
         return false;
     }
     if j.ran + 1 != task.c {
@@ -53,14 +51,13 @@ fn given_12(task: Task, j: Job, released: bool) -> bool
 fn given_13(task: Task, j: Job, released: bool, finished: bool) -> bool
     ensures { λ r. ⌜ r ≡ given13 task j released finished ⌝ }
 {
-    let s = j.stage;
     if !released {
         return false;
     }
     if finished {
         return false;
     }
-    !s.is_idle()
+    !j.stage.is_idle()
 }
 
 // The first of refusals 10 to 13 that is given of the task, or 0.

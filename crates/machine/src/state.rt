@@ -1,13 +1,12 @@
 // Jobs, a fresh machine and set-up.
 ghost use mathlib.Core.Path.{_≡_};
-ghost use mathlib.Core.Bool.{cond, not, _&&_};
+ghost use mathlib.Core.Bool.{cond};
 ghost use Prim.Native.Nat.{min, _≤_};
-ghost use lib.Dec.{leb};
 ghost use Rattle.table.specs.Limits.{mostTasks, mostPartitions};
 ghost use Rattle.table.specs.Tasks.{C};
 ghost use Rattle.machine.specs.Jobs.{isIdle, isWaiting, isRunning, noJob};
 ghost use Rattle.machine.specs.Fresh.{trimmed, fresh, setUp};
-ghost use Rattle.machine.specs.Conditions.{hasNothing, goodStage, goodJob};
+ghost use Rattle.machine.specs.Conditions.{hasNothing, idlesWell, runsWell, goodJob};
 ghost use Rattle.machine.specs.Passes.{isLeft};
 use crate::Job;
 use crate::Machine;
@@ -18,56 +17,35 @@ use table::Table;
 use table::Task;
 
 impl Stage {
+    pub const IDLE: Stage = Stage(0);
+
+    pub const WAITING: Stage = Stage(1);
+
+    pub const RUNNING: Stage = Stage(2);
+
     pub fn is_idle(self) -> bool
         ensures { λ r. ⌜ r ≡ isIdle self ⌝ }
     {
-        match self {
-            Stage::Idle => true,
-            Stage::Waiting => false,
-            Stage::Running => false,
-        }
+        self.0 == 0
     }
 
     pub fn is_waiting(self) -> bool
         ensures { λ r. ⌜ r ≡ isWaiting self ⌝ }
     {
-        match self {
-            Stage::Idle => false,
-            Stage::Waiting => true,
-            Stage::Running => false,
-        }
+        self.0 == 1
     }
 
     pub fn is_running(self) -> bool
         ensures { λ r. ⌜ r ≡ isRunning self ⌝ }
     {
-        match self {
-            Stage::Idle => false,
-            Stage::Waiting => false,
-            Stage::Running => true,
-        }
-    }
-
-    // 0 for an idle job only: the byte of a stage, as it stands in memory.
-    pub(crate) fn mark(self) -> u32
-        ensures { λ r. ⌜ r ≡ cond (isIdle self) 0 (cond (isWaiting self) 1 2) ⌝ }
-    {
-        match self {
-            Stage::Idle => 0,
-            Stage::Waiting => 1,
-            Stage::Running => 2,
-        }
+        self.0 == 2
     }
 
     // 1 for a job that runs.
     pub(crate) fn runs(self) -> u32
         ensures { λ r. ⌜ r ≡ cond (isRunning self) 1 0 ⌝ }
     {
-        match self {
-            Stage::Idle => 0,
-            Stage::Waiting => 0,
-            Stage::Running => 1,
-        }
+        if self.0 == 2 { 1 } else { 0 }
     }
 }
 
@@ -76,7 +54,7 @@ impl Job {
         ensures { λ r. ⌜ r ≡ noJob ⌝ }
     {
         Job {
-            stage: Stage::Idle,
+            stage: Stage::IDLE,
             age: 0,
             ran: 0,
             held: 0,
@@ -87,8 +65,7 @@ impl Job {
     pub(crate) fn is_left(self, x: u32, k: usize) -> bool
         ensures { λ r. ⌜ r ≡ isLeft self x k ⌝ }
     {
-        let s = self.stage;
-        if !s.is_idle() {
+        if !self.stage.is_idle() {
             return false;
         }
         !sets::has_task(x, k)
@@ -106,7 +83,7 @@ impl Job {
 
     // What is asked of an idle job.
     fn idles_well(self) -> bool
-        ensures { λ r. ⌜ r ≡ (hasNothing self && leb 1 (self .age)) ⌝ }
+        ensures { λ r. ⌜ r ≡ idlesWell self ⌝ }
     {
         if !self.has_nothing() {
             return false;
@@ -117,7 +94,7 @@ impl Job {
     // What is asked of a running job, of a task whose C is 1 or more, on a cache of p partitions.
     fn runs_well(self, p: Partitions, task: Task) -> bool
         requires { ⌜ (p .0 ≤ mostPartitions) × (1 ≤ C task) ⌝ }
-        ensures { λ r. ⌜ r ≡ goodStage (p .0) task self Stage.Running ⌝ }
+        ensures { λ r. ⌜ r ≡ runsWell (p .0) task self ⌝ }
     {
         if task.c <= self.ran {
             return false;
@@ -139,14 +116,16 @@ impl Job {
         if task.t < self.age {
             return false;
         }
-        let s = self.stage;
-        if s.is_running() {
+        if self.stage.is_running() {
             return self.runs_well(p, task);
         }
-        if s.is_idle() {
+        if self.stage.is_idle() {
             return self.idles_well();
         }
-        self.has_nothing()
+        if self.stage.is_waiting() {
+            return self.has_nothing();
+        }
+        false
     }
 }
 
@@ -181,7 +160,7 @@ fn fresh_jobs(t: Table) -> [Job; Table::MOST]
     while i < n {
         let row = t.rows[i];
         jobs[i] = Job {
-            stage: Stage::Idle,
+            stage: Stage::IDLE,
             age: row.t,
             ran: 0,
             held: 0,

@@ -7,9 +7,9 @@ ghost use Rattle.machine.specs.Tick.{tick};
 use crate::Answer;
 use crate::Look;
 use crate::Machine;
+use crate::Past;
 use crate::Ticked;
 use crate::Walk;
-use crate::judging::marks;
 use crate::judging::refusal_of;
 use crate::state::entries;
 use table::Refusal;
@@ -49,12 +49,13 @@ impl Machine {
             );
             k += 1;
         }
-        let mut past: u64 = 0;
+        let mut past = Past::start();
         while k < Table::MOST {
-            past = past | marks(t.rows[k], jobs[k]);
+            past = past.with(t.rows[k], jobs[k]);
             k += 1;
         }
-        let refused = refusal_of(look, past, t.platform.cores, t.n, released | finished);
+        let marks = past.marks();
+        let refused = refusal_of(look, marks, t.platform.cores, t.n, released | finished);
         let moved = accepted_tasks(refused, n);
         let mut walk = Walk::start(t.platform.partitions, look);
         let mut i: usize = 0;

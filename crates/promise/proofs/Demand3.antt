@@ -16,7 +16,7 @@ use Rattle.sets.proofs.Same.{disjoint-bit}
 use Rattle.machine.specs.declared.Answer.{Answer}
 use Rattle.machine.specs.declared.Machine.{Machine}
 use Rattle.machine.specs.Jobs.{job}
-use Rattle.machine.proofs.StateParts.{GoodState}
+use Rattle.machine.proofs.StateParts.{Staged, GoodState, when-good}
 use Rattle.conduct.proofs.Laws.{tick-refusal, tick-late}
 use Rattle.promise.specs.Sequences.{Report, told, Sequence, sequence, count, tickAt, state}
 use Rattle.promise.specs.Promise.{Admitted, Kept, Demand3}
@@ -51,10 +51,13 @@ module _ (t : Table) (a : Admitted t) (xs : List Report) where
   abbrev s : Sequence
   s = sequence t xs
 
+  staged : (i : ℕ) → i ≤ count s → Each (t .n) (λ k. Staged (job (state s i) k .stage))
+  staged i l = each (t .n) _ (λ j h. when-good (sound t a xs i l .good .each j (rw (sound t a xs i l .same) h)))
+
   timely : (i : ℕ) → i ≤ count s → Each (state s i .table .n) (Timely (state s i .table) (state s i))
   timely i l =
       subst (λ (u : Table). Each (u .n) (Timely u (state s i))) (sym (sound t a xs i l .same))
-      (λ k p q. record { sound = admitted t a .sound k p q; good = on-time t a xs i l k p q .0; onTime = on-time t a xs i l k p q .1 })
+      (λ k p q. record { sound = admitted t a .sound k p q; good = on-time t a xs i l k p q .0; onTime = on-time t a xs i l k p q .1; staged = staged i l k p q })
 
   few : (i : ℕ) → i ≤ count s → state s i .table .n ≤ mostTasks
   few i l = sound t a xs i l .good .table .few

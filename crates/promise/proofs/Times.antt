@@ -17,12 +17,13 @@ use Rattle.machine.specs.Jobs.{job, idles}
 use Rattle.machine.specs.Steps.{finish, passed, lateSet}
 use Rattle.machine.specs.Tick.{tickRefusal}
 use Rattle.machine.proofs.Jobs.{passed-job, finished-job, finished-table}
+use Rattle.machine.proofs.StateParts.{Staged}
 use Rattle.lives.specs.Life as L
 use Rattle.lives.specs.Life.{Life, Sound, Good, OnTime}
 use Rattle.lives.proofs.OnTime as on-time
 use Rattle.conduct.specs.Lives.{row, life}
 use Rattle.conduct.proofs.Accepted.{never-13}
-use Rattle.conduct.proofs.Lives.{one-true, shows, life-older, life-finished}
+use Rattle.conduct.proofs.Lives.{one-true, shows, life-older, finished-staged, life-finished}
 use Rattle.promise.proofs.Bits.{unfinished}
 
 -- each life of m is on time, by the table u
@@ -30,6 +31,7 @@ pub record Timely (u : Table) (m : Machine) (k : ℕ) : Type 0 where
   pub sound : Sound (row (τ u k))
   pub good : Good (row (τ u k)) (life (job m k))
   pub onTime : OnTime (row (τ u k)) (life (job m k))
+  pub staged : Staged (job m k .stage)
 
 module _ (m : Machine) (few : m .table .n ≤ mostTasks) (timely : Each (m .table .n) (Timely (m .table) m)) where
   module _ (k : ℕ) (p : 1 ≤ k) (q : k ≤ m .table .n) (F : ℕ) where
@@ -43,10 +45,13 @@ module _ (m : Machine) (few : m .table .n ≤ mostTasks) (timely : Each (m .tabl
     is : life (job (finish F (passed m)) k) ≡ L.finish (hasTask F k) (L.rise (T (τ t k)) x)
     is = ap life (finished-job m k p q (omega arith) F) ∙ life-finished (τ t k) (hasTask F k) (job m k)
 
+    staged : Staged (job (finish F (passed m)) k .stage)
+    staged = rw (finished-job m k p q (omega arith) F) (finished-staged (τ t k) (hasTask F k) (job m k) (timely k p q .staged))
+
     young : idles (finish F (passed m)) k ≡ false → job (finish F (passed m)) k .age < D (τ t k)
     young e =
         let there : L.idles (L.finish (hasTask F k) (L.rise (T (τ t k)) x)) ≡ 0 =
-        sym (ap L.idles is) ∙ (shows (job (finish F (passed m)) k) .idles ∙ rw e) in
+        sym (ap L.idles is) ∙ (shows (job (finish F (passed m)) k) .idles staged ∙ rw e) in
         let b = unfinished (row (τ t k)) (T (τ t k)) x (hasTask F k) there in
         let g = timely k p q in
         omega (
@@ -73,7 +78,7 @@ module _ (m : Machine) (few : m .table .n ≤ mostTasks) (timely : Each (m .tabl
         let old : T (τ t k) ≤ L.age (L.rise (T (τ t k)) x) = omega (arith, shows (job (passed m) k) .age, ap L.age older) in
         let g = timely k p q in
         let i = on-time.never-13 (row (τ t k)) (T (τ t k)) (g .sound) x (hasTask F k) (g .good) (g .onTime) old in
-        one-true (idles (finish F (passed m)) k) (sym (shows (job (finish F (passed m)) k) .idles) ∙ (ap L.idles is ∙ i))
+        one-true (idles (finish F (passed m)) k) (sym (shows (job (finish F (passed m)) k) .idles staged) ∙ (ap L.idles is ∙ i))
 
   pub no-late : (F : ℕ) → lateSet m (finish F (passed m)) ≡ 0
   no-late F = where-empty _ _ (λ i l. not-late-task (suc i) (omega arith) (in-n i l) F _ (same-D i))

@@ -1,16 +1,16 @@
 -- Taking the lowest members one by one: `x & (x - 1)` lacks the lowest member of x, and what the choice leaves of x is
 -- what a choice of one less leaves of that.
 use Prim.Native.Nat.{ℕ, zero, suc, _+_, _-_, _*_, _/_, _%_, _^_, _<_, _≤_}
-use mathlib.Core.Path.{_≡_, sym, _∙_, ap₂}
+use mathlib.Core.Path.{_≡_, sym, _∙_, ap, ap₂}
 use mathlib.Core.Logic.{_⊎_, inl, inr}
-use native.Mathlib.Nat.{lt-of-le-of-lt, one-mul, sub-le, mod-eq-of-lt}
+use native.Mathlib.Nat.{lt-of-le-of-lt, le-trans, one-mul, sub-le, mod-eq-of-lt}
 use native.Mathlib.Omega.{arith}
 use native.Mathlib.Decide.{ℕ-discrete, decLt}
 use lib.Arith.{sub-sub-self}
 use lib.Bits.{bitAnd, and-block, and-self, and-shifted, and-le-l, and-zero-r}
 use lib.Pow.{pow-pos, pow-lt, split, ones-lt}
 use Rattle.sets.specs.Sets.{bit, size, without, Within}
-use Rattle.sets.specs.Choice.{choice}
+use Rattle.sets.specs.Choice.{choice, less}
 use Rattle.sets.proofs.Bits.{bit-cases, bit-lt, bit-zero, bit-without, bit-pow-same, bit-pow-other, bit-mod, mod-more}
 use Rattle.sets.proofs.Same.{ext, and-within}
 use Rattle.sets.proofs.Sizes.{size-zero, size-same, size-pow, size-without}
@@ -115,6 +115,32 @@ leaves-less x (suc a) h pos l =
     let p = lowest 64 x h pos in
     let one : suc a - 1 ≡ a = omega arith in
     rw (drop-lowest x (p .0) (p .2), one) (leaves-low x a (p .0) h (p .2))
+
+-- also of a set that has none
+pub leaves-step : (x a : ℕ) → x < 2 ^ 64 → 0 < a → leaves x a ≡ leaves (less x) (a - 1)
+leaves-step x a h l =
+    elim (ℕ-discrete x 0) [
+      | yes e ↦ rw e (omega arith)
+      | no e ↦ leaves-less x a h (omega arith) l
+    ]
+
+pub less-le : (x : ℕ) → less x ≤ x
+less-le x = and-le-l x (x - 1)
+
+pub leaves-four : (x a : ℕ) → x < 2 ^ 64 → 4 ≤ a → leaves x a ≡ leaves (less (less (less (less x)))) (a - 4)
+leaves-four x a h l =
+    let one = less-le x in
+    let two = less-le (less x) in
+    let three = less-le (less (less x)) in
+    let end : a - 1 - 1 - 1 - 1 ≡ a - 4 = omega arith in
+    leaves-step x a h (omega arith)
+    ∙ (leaves-step (less x) (a - 1) (lt-of-le-of-lt one h) (omega arith)
+    ∙ (leaves-step (less (less x)) (a - 1 - 1) (lt-of-le-of-lt two (lt-of-le-of-lt one h)) (omega arith)
+    ∙ (leaves-step (less (less (less x))) (a - 1 - 1 - 1) (lt-of-le-of-lt three (lt-of-le-of-lt two (lt-of-le-of-lt one h))) (omega arith)
+    ∙ ap (leaves (less (less (less (less x))))) end)))
+
+pub less-four : (x : ℕ) → less (less (less (less x))) ≤ x
+less-four x = le-trans (less-le (less (less (less x)))) (le-trans (less-le (less (less x))) (le-trans (less-le (less x)) (less-le x)))
 
 pub leaves-zero : (x : ℕ) → leaves x 0 ≡ x
 leaves-zero x = rw (choice-none x, and-zero-r x) (omega arith)

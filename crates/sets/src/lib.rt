@@ -3,7 +3,7 @@ ghost use mathlib.Core.Path.{_≡_};
 ghost use Prim.Native.Nat.{min};
 ghost use Rattle.sets.specs.Sets.{has, size, below, without};
 ghost use Rattle.sets.specs.TaskSets.{hasTask, taskBit};
-ghost use Rattle.sets.specs.Choice.{choice};
+ghost use Rattle.sets.specs.Choice.{choice, less};
 
 // Partition p is in the set.
 pub fn has(x: u64, p: u32) -> bool
@@ -65,17 +65,31 @@ pub fn without(x: u64, y: u64) -> u64
     x - (x & y)
 }
 
-// The partitions that a starting job of A = a gets, out of the idle ones. `rest & (rest - 1)` lacks the lowest member of `rest`.
+// The set without its lowest member.
+fn less(x: u64) -> u64
+    ensures { λ r. ⌜ r ≡ less x ⌝ }
+{
+    if x == 0 {
+        return 0;
+    }
+    x & (x - 1)
+}
+
+// The partitions that a starting job of A = a gets, out of the idle ones: four at a time, and then those that are left.
 pub fn choose(idle: u64, a: u32) -> u64
     ensures { λ r. ⌜ r ≡ choice idle a ⌝ }
 {
     let mut rest = idle;
     let mut left = a;
-    while 0 < left {
+    while 4 <= left {
         if rest == 0 {
             return idle;
         }
-        rest = rest & (rest - 1);
+        rest = less(less(less(less(rest))));
+        left -= 4;
+    }
+    while 0 < left {
+        rest = less(rest);
         left -= 1;
     }
     idle - rest

@@ -25,11 +25,7 @@ fn say_refusal(r: Refusal) {
 }
 
 fn one_if_runs(s: Stage) -> u64 {
-    match s {
-        Stage::Idle => 0,
-        Stage::Waiting => 0,
-        Stage::Running => 1,
-    }
+    if s.is_running() { 1 } else { 0 }
 }
 
 struct Use {

@@ -1,11 +1,13 @@
 -- The demands hold of the lent forms: from the laws of set-up, of the tick and of the answers, and demand 3 from the theorem of the definitions.
-use Prim.Native.Nat.{ℕ, _<_}
+use Prim.Native.Nat.{ℕ, suc, _<_, _≤_}
 use mathlib.Core.Path.{_≡_, refl, sym, _∙_, ap, subst}
-use mathlib.Core.Bool.{Bool, true, false}
+use mathlib.Core.Bool.{Bool, true, false, true≢false}
 use mathlib.Core.List.{List, []}
 use mathlib.Core.Logic.{_≢_}
 use native.Mathlib.Omega.{arith}
-use borrow.Author.Tests.{lt-ltb, le-ltb, eqb-true}
+use native.Mathlib.Decide.{decLt}
+use borrow.Author.Tests.{lt-ltb, le-ltb, eqb-true, ne-eqb}
+use lib.Dec.{eqb}
 use lib.ListN.{length}
 use Rattle.maths.proofs.Tasks.{length-tabulate}
 use Rattle.table.specs.declared.Platform.{Platform}
@@ -14,11 +16,17 @@ use Rattle.table.specs.declared.Table.{Table}
 use Rattle.table.specs.Limits.{mostTasks}
 use Rattle.table.specs.Refused.{refusal, tableRules}
 use Rattle.admission.proofs.Answers.{answers-agree}
+use Rattle.machine.specs.declared.Job.{Job}
 use Rattle.machine.specs.declared.Machine.{Machine}
 use Rattle.machine.specs.declared.SetUp.{SetUp}
+use Rattle.machine.specs.declared.Stage.{Stage}
 use Rattle.machine.specs.declared.Ticked.{Ticked}
+use Rattle.machine.specs.Jobs.{job}
+use Rattle.machine.specs.Conditions.{goodState}
 use Rattle.machine.specs.Fresh.{fresh, setUp}
 use Rattle.machine.specs.Tick.{tickRefusal, accepted, refusedAnswer, tick}
+use Rattle.machine.proofs.StateParts.{Staged, when-good}
+use Rattle.machine.proofs.StateTest.{state-good}
 use Rattle.machine.proofs.StateFresh.{set-up-fresh, set-up-forgets, set-up-refused}
 use Rattle.promise.specs.Promise.{Admitted, Kept}
 use Rattle.promise.proofs.Demand3 as promise
@@ -41,11 +49,34 @@ tick-refused m released finished h = by (accepted m released finished) refl h
     by true e h = absurd (h (rw e (eqb-true _ 0 e)))
     by false e h = rw e
 
+-- a good state has no stage above 2
+staged-low : (s : Stage) → Staged s → 2 < s .0 → ⊥
+staged-low s k l =
+    let none : (b : ℕ) → b ≤ 2 → eqb (s .0) b ≡ false = λ b h. ne-eqb (s .0) b (λ e. omega (arith, e)) in
+    true≢false (sym (k (none 0 (omega arith)) (none 1 (omega arith))) ∙ none 2 (omega arith))
+
+no-stage : (m : Machine) → length (m .table .rows) ≡ mostTasks → (i : ℕ) → i < mostTasks → 2 < job m (suc i) .stage .0 → goodState m ≡ false
+no-stage m len i l high = by (goodState m) refl
+  where
+    by : (b : Bool) → goodState m ≡ b → b ≡ false
+    by false e = refl
+    by true e =
+        let g = state-good m len e in
+        elim (decLt i (m .table .n)) [
+          | yes h ↦ absurd (staged-low (job m (suc i) .stage) (when-good (g .each i h)) high)
+          | no h ↦ absurd (omega (arith, high, ap (λ (j : Job). j .stage .0) (g .noJobs i (omega arith) l)))
+        ]
+
+no-stage-tick : (m : Machine) (released finished : ℕ) → goodState m ≡ false → tick m released finished .answer .refused ≡ record { number = 14; row = 0 }
+unfolding tick tickRefusal
+no-stage-tick m released finished e = rw e
+
 pub demand-1 : Demand1
 demand-1 =
     record {
       setUpRefused = λ m p rows h. ap (λ (s : SetUp). s .machine) (set-up-refused m (tableOf p rows) (λ e. h (set-up-number m (tableOf p rows) ∙ e)));
       setUpForgets = λ m other p rows e. ap (λ (s : SetUp). s .machine) (set-up-forgets m other (tableOf p rows) (sym (set-up-number m (tableOf p rows)) ∙ e));
+      noStage = λ m len i l high released finished. no-stage-tick m released finished (no-stage m len i l high);
       tickRefused = λ m released finished h.
           (ap (λ (r : Ticked). r .machine) (tick-refused m released finished h), ap (λ (r : Ticked). r .answer) (tick-refused m released finished h));
     }

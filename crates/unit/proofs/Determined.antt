@@ -17,9 +17,7 @@ use Rattle.machine.specs.declared.SetUp.{SetUp}
 use Rattle.machine.specs.declared.Ticked.{Ticked}
 use Rattle.machine.specs.Fresh.{setUp}
 use Rattle.machine.specs.Tick.{tick}
-use Rattle.unit.specs.declared.raw.RawMachine.{RawMachine}
 use Rattle.unit.specs.Lent.{tableOf}
-use Rattle.unit.specs.Raw.{rawSetUp, rawTick}
 
 module _ (p : Platform) (rows : List Task) where
   pub table-of-determined : (r s : Table) → r ≡ tableOf p rows → s ≡ tableOf p rows → r ≡ s
@@ -40,11 +38,6 @@ module _ (p : Platform) (rows : List Task) where
   pub set-up-from-determined : (m : Machine) (n : ℕ) (r s : SetUp) → r ≡ setUp m (tableOf p (take n rows)) → s ≡ setUp m (tableOf p (take n rows)) → r ≡ s
   set-up-from-determined m n = determined (setUp m (tableOf p (take n rows)))
 
-  pub raw-set-up-determined : (m : RawMachine) (r s : Refusal) (a b : RawMachine)
-      → (r ≡ rawSetUp m (tableOf p rows) .refused) × (a ≡ rawSetUp m (tableOf p rows) .machine)
-      → (s ≡ rawSetUp m (tableOf p rows) .refused) × (b ≡ rawSetUp m (tableOf p rows) .machine) → (r ≡ s) × (a ≡ b)
-  raw-set-up-determined m = determined-both (rawSetUp m (tableOf p rows) .refused) (rawSetUp m (tableOf p rows) .machine)
-
 module _ (x y : ℕ) where
   pub tick-determined : (m : Machine) (r s : Answer) (a b : Machine)
       → (r ≡ tick m x y .answer) × (a ≡ tick m x y .machine) → (s ≡ tick m x y .answer) × (b ≡ tick m x y .machine) → (r ≡ s) × (a ≡ b)
@@ -52,7 +45,3 @@ module _ (x y : ℕ) where
 
   pub ticked-determined : (m : Machine) (r s : Ticked) → r ≡ tick m x y → s ≡ tick m x y → r ≡ s
   ticked-determined m = determined (tick m x y)
-
-  pub raw-tick-determined : (m : RawMachine) (r s : Answer) (a b : RawMachine)
-      → (r ≡ rawTick m x y .answer) × (a ≡ rawTick m x y .machine) → (s ≡ rawTick m x y .answer) × (b ≡ rawTick m x y .machine) → (r ≡ s) × (a ≡ b)
-  raw-tick-determined m = determined-both (rawTick m x y .answer) (rawTick m x y .machine)

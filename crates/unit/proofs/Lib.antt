@@ -4,7 +4,6 @@ pub mod Demands
 pub mod Determined
 pub mod Fill
 pub mod First
-pub mod InC
 pub mod Judged
 pub mod Lends
 pub mod Moved
@@ -13,4 +12,3 @@ pub mod Renewed
 pub mod Rows
 pub mod Tables
 pub mod Walk
-pub mod PromiseInC

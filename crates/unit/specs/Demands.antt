@@ -1,6 +1,6 @@
 -- The demands, of what a caller outside lends: a row of tasks, and a machine that is set up and moved on.
 -- Demand 2 is the contracts themselves; here is what they say of the count of a row, and that the two answers agree.
-use Prim.Native.Nat.{ℕ, _<_}
+use Prim.Native.Nat.{ℕ, suc, _<_}
 use mathlib.Core.Path.{_≡_}
 use mathlib.Core.Bool.{true}
 use mathlib.Core.List.{List, []}
@@ -16,6 +16,7 @@ use Rattle.admission.specs.declared.FullAnswer.{FullAnswer}
 use Rattle.admission.specs.declared.QuickAnswer.{QuickAnswer}
 use Rattle.machine.specs.declared.Machine.{Machine}
 use Rattle.machine.specs.Fresh.{setUp}
+use Rattle.machine.specs.Jobs.{job}
 use Rattle.machine.specs.Tick.{refusedAnswer, tick}
 use Rattle.promise.specs.Sequences.{Report, Sequence, steps}
 use Rattle.promise.specs.Promise.{Kept}
@@ -28,6 +29,9 @@ pub record Demand1 : Type 0 where
   -- One that is not leaves nothing of it: what stands there is of the new rows and platform alone.
   pub setUpForgets : (m other : Machine) (p : Platform) (rows : List Task)
       → setUp m (tableOf p rows) .refused .number ≡ 0 → setUp m (tableOf p rows) .machine ≡ setUp other (tableOf p rows) .machine
+  -- A stage above 2, of a task of the table or past it, is refused under 14.
+  pub noStage : (m : Machine) → length (m .table .rows) ≡ mostTasks → (i : ℕ) → i < mostTasks → 2 < job m (suc i) .stage .0
+      → (released finished : ℕ) → tick m released finished .answer .refused ≡ record { number = 14; row = 0 }
   -- A tick that is refused leaves the machine as it was lent, and answers 0 for its sets.
   pub tickRefused : (m : Machine) (released finished : ℕ) → tick m released finished .answer .refused .number ≢ 0
       → (tick m released finished .machine ≡ m) × (tick m released finished .answer ≡ refusedAnswer (tick m released finished .answer .refused))

@@ -1,5 +1,2 @@
 pub mod Lent
-pub mod Raw
-pub mod InC
 pub mod Demands
-pub mod PromiseInC

@@ -5,8 +5,8 @@ ghost use lib.ListN.{take};
 ghost use Rattle.machine.specs.Fresh.{setUp};
 ghost use Rattle.machine.specs.Tick.{tick};
 ghost use Rattle.unit.specs.Lent.{tableOf};
-use crate::set_up;
-use crate::tick;
+use crate::gorsetumble_set_up;
+use crate::gorsetumble_tick;
 use machine::Machine;
 use machine::SetUp;
 use machine::Ticked;
@@ -28,7 +28,7 @@ pub fn set_up_from(old: Machine, platform: Platform, rows: [Task; MOST], n: usiz
 {
     let mut lent = old;
     let k = lendable(n);
-    let refused = set_up(&mut lent, platform, &rows[..k]);
+    let refused = gorsetumble_set_up(&mut lent, platform, &rows[..k]);
     SetUp {
         refused: refused,
         machine: lent,
@@ -39,7 +39,7 @@ pub fn ticked(m: Machine, released: u32, finished: u32) -> Ticked
     ensures { λ r. ⌜ r ≡ tick m released finished ⌝ }
 {
     let mut lent = m;
-    let answer = tick(&mut lent, released, finished);
+    let answer = gorsetumble_tick(&mut lent, released, finished);
     Ticked {
         machine: lent,
         answer: answer,

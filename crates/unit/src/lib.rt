@@ -1,6 +1,5 @@
 // What the outside calls: a lent row of task records, and a machine that the caller lends and gets moved on.
 pub mod lending;
-pub mod raw;
 
 ghost use mathlib.Core.Path.{_≡_};
 ghost use Prim.Native.Nat.{_<_, min};
@@ -60,20 +59,23 @@ pub fn table_of(platform: Platform, rows: &[Task]) -> Table
     t
 }
 
-pub fn full(platform: Platform, rows: &[Task]) -> FullAnswer
+#[no_mangle]
+pub extern "C" fn gorsetumble_full(platform: Platform, rows: &[Task]) -> FullAnswer
     ensures { λ r. ⌜ r ≡ fullAnswer (tableOf platform (now (rows .entry))) ⌝ }
 {
     admission::full_answer(table_of(platform, rows))
 }
 
-pub fn quick(platform: Platform, rows: &[Task]) -> QuickAnswer
+#[no_mangle]
+pub extern "C" fn gorsetumble_quick(platform: Platform, rows: &[Task]) -> QuickAnswer
     ensures { λ r. ⌜ r ≡ quickAnswer (tableOf platform (now (rows .entry))) ⌝ }
 {
     admission::quick_answer(table_of(platform, rows))
 }
 
 // A fresh machine of the rows in the place of the old one, which stays where they are refused.
-pub fn set_up(m: &mut Machine, platform: Platform, rows: &[Task]) -> Refusal
+#[no_mangle]
+pub extern "C" fn gorsetumble_set_up(m: &mut Machine, platform: Platform, rows: &[Task]) -> Refusal
     ensures { λ r. ⌜ (r ≡ setUp (now (m .entry)) (tableOf platform (now (rows .entry))) .refused)
         × (now (m .exit) ≡ setUp (now (m .entry)) (tableOf platform (now (rows .entry))) .machine) ⌝ }
 {
@@ -84,7 +86,8 @@ pub fn set_up(m: &mut Machine, platform: Platform, rows: &[Task]) -> Refusal
 }
 
 // One tick of the machine, in its place.
-pub fn tick(m: &mut Machine, released: u32, finished: u32) -> Answer
+#[no_mangle]
+pub extern "C" fn gorsetumble_tick(m: &mut Machine, released: u32, finished: u32) -> Answer
     ensures { λ r. ⌜ (r ≡ tick (now (m .entry)) released finished .answer) × (now (m .exit) ≡ tick (now (m .entry)) released finished .machine) ⌝ }
 {
     let s = Machine::tick(*m, released, finished);

@@ -3,7 +3,7 @@ use native.Mathlib.Omega.{arith}
 use borrow.Author.Tests.{le-leb, lt-leb}
 use Rattle.table.specs.Tasks.{T}
 use Rattle.machine.specs.Conditions.{goodJob}
-use Rattle.machine.proofs.TickTurns.{stage-runs, stage-idles, stage-waits}
+use Rattle.machine.proofs.TickTurns.{stage-runs, stage-idles, stage-waits, stage-none}
 use borrow.Author.Needs.{needs}
 use Rattle.machine.proofs.Job.is_good.Statement.{statement}
 use Rattle.machine.proofs.Job.is_good.Tie as tie
@@ -46,19 +46,32 @@ returns-3 c =
     )
     (c .idles-well .ensures)
 
+is-waiting-requires : tie.Need-is-waiting-requires
+is-waiting-requires c κs = search needs
+
 has-nothing-requires : tie.Need-has-nothing-requires
 has-nothing-requires c κs = search needs
 
 returns-4 : tie.Need-returns-4
 unfolding goodJob
 returns-4 c =
-    let s = c .before .before .before .before .before .before .before .before in
+    let s = c .before .before .before .before .before .before .before .before .before .before in
     rw (
       le-leb (s .args .self .age) (T (s .args .task)) (omega arith),
-      stage-waits _ _ _ _ (sym (c .before .before .before .before .is-running .ensures) ∙ c .before .before .before .if2 .left)
-          (sym (c .before .before .is-idle .ensures) ∙ c .before .if3 .left),
+      stage-waits _ _ _ _ (sym (c .before .before .is-waiting .ensures) ∙ c .before .if4 .taken),
     )
     (c .has-nothing .ensures)
+
+returns-5 : tie.Need-returns-5
+unfolding goodJob
+returns-5 c =
+    let s = c .before .before .before .before .before .before .before .before .before in
+    rw (
+      le-leb (s .args .self .age) (T (s .args .task)) (omega arith),
+      stage-none _ _ _ _ (sym (c .before .before .before .before .before .is-running .ensures) ∙ c .before .before .before .before .if2 .left)
+          (sym (c .before .before .before .is-idle .ensures) ∙ c .before .before .if3 .left)
+          (sym (c .before .is-waiting .ensures) ∙ c .if4 .left),
+    )
 
 pub is-good-spec : {M : Type 1} → statement M
 is-good-spec =
@@ -71,5 +84,7 @@ is-good-spec =
     is-idle-requires
     idles-well-requires
     returns-3
+    is-waiting-requires
     has-nothing-requires
-    returns-4)
+    returns-4
+    returns-5)

@@ -24,8 +24,8 @@ returns c =
     rw (c .before .before .first-of .ensures, n .number-of .ensures)
     (look-still (s .args .k) (s .args .task) (s .args .j) (s .args .released) (s .args .finished) (s .args .self) still (s .pre .3 still))
 
-add-t12 : tie.Need-add-t12
-add-t12 c = search needs
+add-look : tie.Need-add-look
+add-look c = search needs
 
 -- it runs
 running : (c : tie.Else1) → isRunning (c .before .before .before .before .args .j .stage) ≡ true
@@ -33,19 +33,17 @@ running c = sym (c .before .is-running .ensures) ∙ not-false _ (c .if1 .left)
 
 returns-2 : tie.Need-returns-2
 returns-2 c =
-    let e = c .before .before .before in
-    rw (e .before .before .before .first-of .ensures, e .before .before .before .before .number-of .ensures) (rw (running (e .before), e .if2 .taken))
+    let e = c .before .before .before .before in
+    rw (e .before .before .first-of .ensures, e .before .before .before .number-of .ensures) (rw (running e, c .if2 .taken))
 
-add-t14 : tie.Need-add-t14
-add-t14 c = search needs
-
-add-t16 : tie.Need-add-t16
-add-t16 c = search needs
+add-look-2 : tie.Need-add-look-2
+add-look-2 c = search needs
 
 returns-3 : tie.Need-returns-3
 returns-3 c =
-    let e = c .before .before .before .before .before .before in
-    rw (e .before .before .before .first-of .ensures, e .before .before .before .before .number-of .ensures) (rw (running (e .before), e .if2 .left))
+    let b = c .before .before .before in
+    let e = b .before .before .before .before in
+    rw (e .before .before .first-of .ensures, e .before .before .before .number-of .ensures) (rw (running e, b .if2 .left))
 
 pub more-spec : {M : Type 1} → statement M
 more-spec =
@@ -55,8 +53,7 @@ more-spec =
     first-of-requires
     is-running-requires
     returns
-    add-t12
+    add-look
     returns-2
-    add-t14
-    add-t16
+    add-look-2
     returns-3)

@@ -73,54 +73,11 @@ loop-again c =
     let l = c .before .before .before .before .before in
     judging-more _ _ _ _ _ _ (l .loop .inv) (c .with .result) (search needs) (c .with .ensures)
 
-loop2-holds : tie.Need-loop2-holds Inv-loop μ-loop Inv-loop2 μ-loop2 Inv-loop3 μ-loop3
-loop2-holds c = ending-none _ _ _ _ _ _ (c .before .loop .inv) (search needs)
-
-mul-marks : tie.Need-mul-marks Inv-loop μ-loop Inv-loop2 μ-loop2 Inv-loop3 μ-loop3
-mul-marks c = search needs
-
-element-copy-out-marks : tie.Need-element-copy-out-marks Inv-loop μ-loop Inv-loop2 μ-loop2 Inv-loop3 μ-loop3
-element-copy-out-marks c = search needs
-
-mul-marks-2 : tie.Need-mul-marks-2 Inv-loop μ-loop Inv-loop2 μ-loop2 Inv-loop3 μ-loop3
-mul-marks-2 c = search needs
-
-array-copy-out-marks : tie.Need-array-copy-out-marks Inv-loop μ-loop Inv-loop2 μ-loop2 Inv-loop3 μ-loop3
-array-copy-out-marks c = search needs
-
-marks-requires : tie.Need-marks-requires Inv-loop μ-loop Inv-loop2 μ-loop2 Inv-loop3 μ-loop3
-marks-requires c κs = search needs
-
-add-k-2 : tie.Need-add-k-2 Inv-loop μ-loop Inv-loop2 μ-loop2 Inv-loop3 μ-loop3
-add-k-2 c = search needs
-
-loop2-less : tie.Need-loop2-less Inv-loop μ-loop Inv-loop2 μ-loop2 Inv-loop3 μ-loop3
-loop2-less c = search needs
-
-loop2-again : tie.Need-loop2-again Inv-loop μ-loop Inv-loop2 μ-loop2 Inv-loop3 μ-loop3
-loop2-again c =
-    let l = c .before .before .before .before in
-    ending-more _ _ _ _ _ _ _ (c .marks .result) (l .loop2 .inv) (search needs) (c .marks .ensures)
-
-refusal-of-requires : tie.Need-refusal-of-requires Inv-loop μ-loop Inv-loop2 μ-loop2 Inv-loop3 μ-loop3
-refusal-of-requires c κs =
-    let e = c .before .before in
-    ending-few _ _ _ (rows-32 (e .before .before .before .before .before .before .before)) _ _ _ _ (e .loop2 .inv) (search needs)
-
-accepted-tasks-requires : tie.Need-accepted-tasks-requires Inv-loop μ-loop Inv-loop2 μ-loop2 Inv-loop3 μ-loop3
-accepted-tasks-requires c κs = search needs
-
 start-requires-2 : tie.Need-start-requires-2 Inv-loop μ-loop Inv-loop2 μ-loop2 Inv-loop3 μ-loop3
 start-requires-2 c κs = search needs
 
-loop3-holds : tie.Need-loop3-holds Inv-loop μ-loop Inv-loop2 μ-loop2 Inv-loop3 μ-loop3
-loop3-holds c =
-    let e = c .before .before .before .before .before in
-    let s = e .before .before .before .before .before .before .before .before in
-    moving-none _ _ _ (rows-32 s) _ _ _ _ (e .before .loop2 .inv) (search needs) (jobs-32 s) _ _ _ (c .before .before .before .refusal-of .ensures) (c .before .before .accepted-tasks .ensures) (c .start2 .ensures)
-
-add-with-2 : tie.Need-add-with-2 Inv-loop μ-loop Inv-loop2 μ-loop2 Inv-loop3 μ-loop3
-add-with-2 c = search needs
+loop2-holds : tie.Need-loop2-holds Inv-loop μ-loop Inv-loop2 μ-loop2 Inv-loop3 μ-loop3
+loop2-holds c = ending-none _ _ _ _ _ _ _ (c .before .before .loop .inv) (search needs) (c .start2 .ensures)
 
 mul-with-3 : tie.Need-mul-with-3 Inv-loop μ-loop Inv-loop2 μ-loop2 Inv-loop3 μ-loop3
 mul-with-3 c = search needs
@@ -135,7 +92,57 @@ array-copy-out-with-2 : tie.Need-array-copy-out-with-2 Inv-loop μ-loop Inv-loop
 array-copy-out-with-2 c = search needs
 
 with-requires-2 : tie.Need-with-requires-2 Inv-loop μ-loop Inv-loop2 μ-loop2 Inv-loop3 μ-loop3
-with-requires-2 c κs = moving-turn _ _ _ _ _ _ _ _ (c .before .before .before .before .loop3 .inv) (search needs)
+with-requires-2 c κs = search needs
+
+add-k-2 : tie.Need-add-k-2 Inv-loop μ-loop Inv-loop2 μ-loop2 Inv-loop3 μ-loop3
+add-k-2 c = search needs
+
+loop2-less : tie.Need-loop2-less Inv-loop μ-loop Inv-loop2 μ-loop2 Inv-loop3 μ-loop3
+loop2-less c = search needs
+
+loop2-again : tie.Need-loop2-again Inv-loop μ-loop Inv-loop2 μ-loop2 Inv-loop3 μ-loop3
+loop2-again c =
+    let l = c .before .before .before .before in
+    ending-more _ _ _ _ _ _ _ (c .with2 .result) (l .loop2 .inv) (search needs) (c .with2 .ensures)
+
+marks-requires : tie.Need-marks-requires Inv-loop μ-loop Inv-loop2 μ-loop2 Inv-loop3 μ-loop3
+marks-requires c κs = search needs
+
+refusal-of-requires : tie.Need-refusal-of-requires Inv-loop μ-loop Inv-loop2 μ-loop2 Inv-loop3 μ-loop3
+refusal-of-requires c κs =
+    let e = c .before .before .before in
+    ending-few _ _ _ (rows-32 (e .before .before .before .before .before .before .before .before)) _ _ _ _ (e .loop2 .inv) (search needs) (c .before .marks .result) (c .before .marks .ensures)
+
+accepted-tasks-requires : tie.Need-accepted-tasks-requires Inv-loop μ-loop Inv-loop2 μ-loop2 Inv-loop3 μ-loop3
+accepted-tasks-requires c κs = search needs
+
+start-requires-3 : tie.Need-start-requires-3 Inv-loop μ-loop Inv-loop2 μ-loop2 Inv-loop3 μ-loop3
+start-requires-3 c κs = search needs
+
+loop3-holds : tie.Need-loop3-holds Inv-loop μ-loop Inv-loop2 μ-loop2 Inv-loop3 μ-loop3
+loop3-holds c =
+    let e = c .before .before .before .before .before in
+    let l = e .before .before in
+    let s = l .before .before .before .before .before .before .before .before in
+    moving-none _ _ _ (rows-32 s) _ _ _ _ (l .loop2 .inv) (search needs) (e .marks .result) (e .marks .ensures) (jobs-32 s) _ _ _ (c .before .before .before .refusal-of .ensures) (c .before .before .accepted-tasks .ensures) (c .start3 .ensures)
+
+add-with-2 : tie.Need-add-with-2 Inv-loop μ-loop Inv-loop2 μ-loop2 Inv-loop3 μ-loop3
+add-with-2 c = search needs
+
+mul-with-5 : tie.Need-mul-with-5 Inv-loop μ-loop Inv-loop2 μ-loop2 Inv-loop3 μ-loop3
+mul-with-5 c = search needs
+
+element-copy-out-with-3 : tie.Need-element-copy-out-with-3 Inv-loop μ-loop Inv-loop2 μ-loop2 Inv-loop3 μ-loop3
+element-copy-out-with-3 c = search needs
+
+mul-with-6 : tie.Need-mul-with-6 Inv-loop μ-loop Inv-loop2 μ-loop2 Inv-loop3 μ-loop3
+mul-with-6 c = search needs
+
+array-copy-out-with-3 : tie.Need-array-copy-out-with-3 Inv-loop μ-loop Inv-loop2 μ-loop2 Inv-loop3 μ-loop3
+array-copy-out-with-3 c = search needs
+
+with-requires-3 : tie.Need-with-requires-3 Inv-loop μ-loop Inv-loop2 μ-loop2 Inv-loop3 μ-loop3
+with-requires-3 c κs = moving-turn _ _ _ _ _ _ _ _ (c .before .before .before .before .loop3 .inv) (search needs)
 
 mul-jobs : tie.Need-mul-jobs Inv-loop μ-loop Inv-loop2 μ-loop2 Inv-loop3 μ-loop3
 mul-jobs c = search needs
@@ -150,7 +157,7 @@ loop3-less : tie.Need-loop3-less Inv-loop μ-loop Inv-loop2 μ-loop2 Inv-loop3 �
 loop3-less c = search needs
 
 loop3-again : tie.Need-loop3-again Inv-loop μ-loop Inv-loop2 μ-loop2 Inv-loop3 μ-loop3
-loop3-again c = moving-more _ _ _ _ _ _ _ _ (c .before .before .before .before .before .before .loop3 .inv) (search needs) (c .before .with2 .result) (c .before .with2 .ensures)
+loop3-again c = moving-more _ _ _ _ _ _ _ _ (c .before .before .before .before .before .before .loop3 .inv) (search needs) (c .before .with3 .result) (c .before .with3 .ensures)
 
 accepted-set-requires : tie.Need-accepted-set-requires Inv-loop μ-loop Inv-loop2 μ-loop2 Inv-loop3 μ-loop3
 accepted-set-requires c κs = search needs
@@ -180,25 +187,27 @@ tick-spec =
     add-k
     loop-less
     loop-again
-    loop2-holds
-    mul-marks
-    element-copy-out-marks
-    mul-marks-2
-    array-copy-out-marks
-    marks-requires
-    add-k-2
-    loop2-less
-    loop2-again
-    refusal-of-requires
-    accepted-tasks-requires
     start-requires-2
-    loop3-holds
-    add-with-2
+    loop2-holds
     mul-with-3
     element-copy-out-with-2
     mul-with-4
     array-copy-out-with-2
     with-requires-2
+    add-k-2
+    loop2-less
+    loop2-again
+    marks-requires
+    refusal-of-requires
+    accepted-tasks-requires
+    start-requires-3
+    loop3-holds
+    add-with-2
+    mul-with-5
+    element-copy-out-with-3
+    mul-with-6
+    array-copy-out-with-3
+    with-requires-3
     mul-jobs
     array-set-from-jobs
     add-i

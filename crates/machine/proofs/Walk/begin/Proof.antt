@@ -32,7 +32,8 @@ go-requires c κs =
     let e = c .before in
     let s = e .before .before .before in
     let room = both (ltb (s .args .self .running) (s .args .cores .0)) _ (sym (e .has-room .ensures) ∙ not-false _ (c .if2 .left)) in
-    (s .pre, leb-true (A (s .args .task)) (s .args .self .room) (room .1))
+    let goes = both (s .args .self .goes) _ (sym (e .before .before .tries .ensures) ∙ not-false _ (e .before .if1 .left)) in
+    (goes .0, s .pre, leb-true (A (s .args .task)) (s .args .self .room) (room .1))
 
 returns-3 : tie.Need-returns-3
 returns-3 c =

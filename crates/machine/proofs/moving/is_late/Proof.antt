@@ -8,7 +8,7 @@ is-idle-requires : tie.Need-is-idle-requires
 is-idle-requires c κs = search needs
 
 returns : tie.Need-returns
-returns c = search needs
+returns c = rw (sym (c .before .is-idle .ensures) ∙ c .if1 .taken)
 
 add-if2 : tie.Need-add-if2
 add-if2 c = search needs

@@ -50,10 +50,10 @@ use Rattle.unit.proofs.First.{first-length, first-same}
 use Rattle.unit.proofs.Lends.{ref-to, lends, tasks, all-vals, lends-local, local-back, lends-rows, rows-back}
 use Rattle.unit.proofs.Tables.{platform, task, refusal, machine, lent}
 use Rattle.unit.proofs.Walk.{calls-told, calls-plain}
-use Rattle.unit.proofs.set_up as set-up
-use Rattle.unit.proofs.set_up.Symbol as set-up-def
-use Rattle.unit.proofs.set_up.Symbol.{name as #set-up}
-use Rattle.unit.proofs.set_up.Met as set-up-thm
+use Rattle.unit.proofs.gorsetumble_set_up as set-up
+use Rattle.unit.proofs.gorsetumble_set_up.Symbol as set-up-def
+use Rattle.unit.proofs.gorsetumble_set_up.Symbol.{name as #set-up}
+use Rattle.unit.proofs.gorsetumble_set_up.Met as set-up-thm
 use Rattle.unit.proofs.lending.lendable as lendable
 use Rattle.unit.proofs.lending.lendable.Symbol as lendable-def
 use Rattle.unit.proofs.lending.lendable.Symbol.{name as #lendable}
@@ -171,4 +171,4 @@ set-up-from-spec 𝓤 H 𝓜 𝓖 𝓡 =
     (tables 𝓤 H 𝓜 𝓡 code.env .C) (tables 𝓤 H 𝓜 𝓡 code.env .Λ) #own code.function (code.unfolded 𝓤 H 𝓜 𝓡)
     (meets 𝓤 H (𝓖 .A) (givenOf 𝓤 H 𝓜 𝓖) (𝓜 .mem) (𝓡 .run) (tablesOf 𝓤 H 𝓜 (tables 𝓤 H 𝓜 𝓡 code.env))
     (cited 𝓤 H (Lendable 𝓤 H (𝓖 .A) (𝓜 .mem) (𝓡 .run)) 𝓜 𝓡 code.env #lendable lendable-def.routine code.calls-unit·lending·lendable (lendable-thm.met 𝓤 H 𝓜 𝓖 𝓡))
-    (cited 𝓤 H (SetsUp 𝓤 H (𝓖 .A) (𝓜 .mem) (𝓡 .run)) 𝓜 𝓡 code.env #set-up set-up-def.routine code.calls-unit·set-up (set-up-thm.met 𝓤 H 𝓜 𝓖 𝓡)))
+    (cited 𝓤 H (SetsUp 𝓤 H (𝓖 .A) (𝓜 .mem) (𝓡 .run)) 𝓜 𝓡 code.env #set-up set-up-def.routine code.calls-unit·gorsetumble-set-up (set-up-thm.met 𝓤 H 𝓜 𝓖 𝓡)))

@@ -40,10 +40,10 @@ use Rattle.unit.proofs.Data.{Data, row, val, vals, Fits, told, made, ty
 use Rattle.unit.proofs.Lends.{ref-to, lends-local, local-back}
 use Rattle.unit.proofs.Tables.{machine, answer}
 use Rattle.unit.proofs.Walk.{calls-told}
-use Rattle.unit.proofs.tick as lent-tick
-use Rattle.unit.proofs.tick.Symbol as lent-tick-def
-use Rattle.unit.proofs.tick.Symbol.{name as #lent-tick}
-use Rattle.unit.proofs.tick.Met as lent-tick-thm
+use Rattle.unit.proofs.gorsetumble_tick as lent-tick
+use Rattle.unit.proofs.gorsetumble_tick.Symbol as lent-tick-def
+use Rattle.unit.proofs.gorsetumble_tick.Symbol.{name as #lent-tick}
+use Rattle.unit.proofs.gorsetumble_tick.Met as lent-tick-thm
 use Rattle.unit.proofs.lending.ticked as own
 use Rattle.unit.proofs.lending.ticked.Key.{name as #own}
 use Rattle.unit.proofs.lending.ticked.Statement as stated
@@ -129,4 +129,4 @@ ticked-spec 𝓤 H 𝓜 𝓖 𝓡 =
     entered 𝓤 H (tripleOf 𝓤 H (𝓖 .A) own.signature (own.spec 𝓤 H (𝓖 .A) (𝓜 .mem) (𝓡 .run)))
     (tables 𝓤 H 𝓜 𝓡 code.env .C) (tables 𝓤 H 𝓜 𝓡 code.env .Λ) #own code.function (code.unfolded 𝓤 H 𝓜 𝓡)
     (meets 𝓤 H (𝓖 .A) (givenOf 𝓤 H 𝓜 𝓖) (𝓜 .mem) (𝓡 .run) (tablesOf 𝓤 H 𝓜 (tables 𝓤 H 𝓜 𝓡 code.env))
-    (cited 𝓤 H (Ticks 𝓤 H (𝓖 .A) (𝓜 .mem) (𝓡 .run)) 𝓜 𝓡 code.env #lent-tick lent-tick-def.routine code.calls-unit·tick (lent-tick-thm.met 𝓤 H 𝓜 𝓖 𝓡)))
+    (cited 𝓤 H (Ticks 𝓤 H (𝓖 .A) (𝓜 .mem) (𝓡 .run)) 𝓜 𝓡 code.env #lent-tick lent-tick-def.routine code.calls-unit·gorsetumble-tick (lent-tick-thm.met 𝓤 H 𝓜 𝓖 𝓡)))

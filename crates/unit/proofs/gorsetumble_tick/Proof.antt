@@ -10,14 +10,14 @@ use Rattle.machine.proofs.Machine.tick.Symbol.{name as #work}
 use Rattle.machine.proofs.Machine.tick.Met as work-thm
 use Rattle.unit.proofs.Moved.{meets}
 use Rattle.unit.proofs.Tables.{machine, answer}
-use Rattle.unit.proofs.tick as own
-use Rattle.unit.proofs.tick.Key.{name as #own}
-use Rattle.unit.proofs.tick.Statement as stated
-use Rattle.unit.proofs.tick.Code as code
+use Rattle.unit.proofs.gorsetumble_tick as own
+use Rattle.unit.proofs.gorsetumble_tick.Key.{name as #own}
+use Rattle.unit.proofs.gorsetumble_tick.Statement as stated
+use Rattle.unit.proofs.gorsetumble_tick.Code as code
 
-pub tick-spec : {M : Type 1} → stated.statement M
+pub gorsetumble-tick-spec : {M : Type 1} → stated.statement M
 unfolding code.routine tablesOf
-tick-spec 𝓤 H 𝓜 𝓖 𝓡 =
+gorsetumble-tick-spec 𝓤 H 𝓜 𝓖 𝓡 =
     entered 𝓤 H (tripleOf 𝓤 H (𝓖 .A) own.signature (own.spec 𝓤 H (𝓖 .A) (𝓜 .mem) (𝓡 .run)))
     (tables 𝓤 H 𝓜 𝓡 code.env .C) (tables 𝓤 H 𝓜 𝓡 code.env .Λ) #own code.function (code.unfolded 𝓤 H 𝓜 𝓡)
     (meets machine answer (S.the-type .name) Ticked (λ s. s .machine) (λ s. s .answer) (S.the-type .to-one) tick #work

@@ -13,10 +13,10 @@ use Rattle.unit.proofs.Rows.{TableOf}
 use Rattle.unit.proofs.table_of.Symbol as table-of-def
 use Rattle.unit.proofs.table_of.Symbol.{name as #table-of}
 use Rattle.unit.proofs.table_of.Met as table-of-thm
-use Rattle.unit.proofs.raw.gorsetumble_full as full
-use Rattle.unit.proofs.raw.gorsetumble_full.Key.{name as #full}
-use Rattle.unit.proofs.raw.gorsetumble_full.Statement as stated
-use Rattle.unit.proofs.raw.gorsetumble_full.Code as code
+use Rattle.unit.proofs.gorsetumble_full as full
+use Rattle.unit.proofs.gorsetumble_full.Key.{name as #full}
+use Rattle.unit.proofs.gorsetumble_full.Statement as stated
+use Rattle.unit.proofs.gorsetumble_full.Code as code
 
 pub gorsetumble-full-spec : {M : Type 1} → stated.statement M
 unfolding code.routine tablesOf

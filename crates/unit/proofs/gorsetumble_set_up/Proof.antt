@@ -14,14 +14,14 @@ use Rattle.unit.proofs.Tables.{machine}
 use Rattle.unit.proofs.table_of.Symbol as table-of-def
 use Rattle.unit.proofs.table_of.Symbol.{name as #table-of}
 use Rattle.unit.proofs.table_of.Met as table-of-thm
-use Rattle.unit.proofs.set_up as set-up
-use Rattle.unit.proofs.set_up.Key.{name as #set-up}
-use Rattle.unit.proofs.set_up.Statement as stated
-use Rattle.unit.proofs.set_up.Code as code
+use Rattle.unit.proofs.gorsetumble_set_up as set-up
+use Rattle.unit.proofs.gorsetumble_set_up.Key.{name as #set-up}
+use Rattle.unit.proofs.gorsetumble_set_up.Statement as stated
+use Rattle.unit.proofs.gorsetumble_set_up.Code as code
 
-pub set-up-spec : {M : Type 1} → stated.statement M
+pub gorsetumble-set-up-spec : {M : Type 1} → stated.statement M
 unfolding code.routine tablesOf
-set-up-spec 𝓤 H 𝓜 𝓖 𝓡 =
+gorsetumble-set-up-spec 𝓤 H 𝓜 𝓖 𝓡 =
     entered 𝓤 H (tripleOf 𝓤 H (𝓖 .A) set-up.signature (set-up.spec 𝓤 H (𝓖 .A) (𝓜 .mem) (𝓡 .run)))
     (tables 𝓤 H 𝓜 𝓡 code.env .C) (tables 𝓤 H 𝓜 𝓡 code.env .Λ) #set-up code.function (code.unfolded 𝓤 H 𝓜 𝓡)
     (meets machine (S.the-type .name) SetUp (λ s. s .refused) (λ s. s .machine) (S.the-type .to-one) setUp #work

@@ -88,7 +88,7 @@ fn verdict_of(p: &[u8], n: usize, t: &[u8], m: usize) {
     put(
         &mut answer,
         0,
-        texts::gorsetumble_quick_verdict(&p[..n], &t[..m]),
+        texts::quick_verdict(&p[..n], &t[..m]),
     );
     send(&answer, 4);
 }

@@ -8,7 +8,7 @@ use table::Platform;
 use table::Refusal;
 use table::Table;
 use table::Task;
-use unit::lending;
+use gorsetumble::lending;
 
 fn say(text: &[u8]) {
     io::write_all(libc::STDOUT_FILENO, text);

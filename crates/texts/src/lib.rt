@@ -1,4 +1,4 @@
-// Whole texts in, whole text out: what the programs write, and the quick verdict for the board's start-up code in C.
+// Whole texts in, whole text out: what the programs write, and the quick verdict on two texts.
 ghost use mathlib.Core.Path.{_≡_};
 ghost use mathlib.Core.Bool.{_&&_};
 ghost use lib.Dec.{leb};
@@ -87,8 +87,7 @@ pub fn admit(
 }
 
 // The quick verdict: 0 for admitted, 100 and the first task that does not pass, or the number of the refusal.
-#[no_mangle]
-pub extern "C" fn gorsetumble_quick_verdict(platform: &[u8], tasks: &[u8]) -> u32
+pub fn quick_verdict(platform: &[u8], tasks: &[u8]) -> u32
     ensures { λ r. ⌜ r ≡ verdict (now (platform .entry)) (now (tasks .entry)) ⌝ }
 {
     let p = readers::read_platform(platform);

@@ -15,6 +15,7 @@ use table::Refusal;
 use table::Table;
 use table::Task;
 
+#[repr(C)]
 pub struct Written {
     pub refused: Refusal,
     pub length: usize,

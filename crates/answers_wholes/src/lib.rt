@@ -85,11 +85,7 @@ fn verdict_of(p: &[u8], n: usize, t: &[u8], m: usize) {
     let n = most(p, n);
     let m = most(t, m);
     let mut answer = [0u8; 304];
-    put(
-        &mut answer,
-        0,
-        texts::quick_verdict(&p[..n], &t[..m]),
-    );
+    put(&mut answer, 0, texts::quick_verdict(&p[..n], &t[..m]));
     send(&answer, 4);
 }
 

@@ -1,5 +1,6 @@
 // A machine in use by one clinic is set up anew for the next: it holds nothing of the old, and a table that is refused leaves it at work.
 // Every step goes through the lent forms of unit.
+use gorsetumble::lending;
 use machine::Machine;
 use machine::Stage;
 use table::Cores;
@@ -8,7 +9,6 @@ use table::Platform;
 use table::Refusal;
 use table::Table;
 use table::Task;
-use gorsetumble::lending;
 
 fn say(text: &[u8]) {
     io::write_all(libc::STDOUT_FILENO, text);

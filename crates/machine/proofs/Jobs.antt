@@ -20,7 +20,7 @@ use Rattle.machine.specs.declared.Job.{Job}
 use Rattle.machine.specs.declared.Machine.{Machine}
 use Rattle.machine.specs.Jobs.{noJob, job, idlePartitions}
 use Rattle.machine.specs.Steps.{forTasks, older, passed, ended, finish, awaiting, release, begun, start}
-pub use Rattle.machine.specs.Passes.{finishedJob, readiedJob}
+pub use Rattle.machine.specs.Code.Readied.{finishedJob, readiedJob}
 use Rattle.machine.specs.Tick.{readied}
 
 abbrev machineOf : Table → List Job → Machine

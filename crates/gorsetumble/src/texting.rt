@@ -1,16 +1,19 @@
-// Whole texts from C: the quick verdict, and what the programs `admit` and `ticks` write of texts that are there.
+// Whole texts from C: the quick verdict, set-up, what the programs `admit` and `ticks` write of texts that are there, and the writers.
 ghost use mathlib.Core.Path.{_≡_};
 ghost use mathlib.Core.Bool.{true};
 ghost use Rattle.texts.specs.Admit.{admitText};
 ghost use Rattle.texts.specs.Verdict.{verdict};
 ghost use Rattle.runs.specs.Ticks.{ticksText};
-ghost use Rattle.writers.specs.Written.{Wrote};
+ghost use Rattle.writers.specs.Outputs.{platformText, tasksText};
+ghost use Rattle.writers.specs.Written.{Wrote, WroteBoth};
 ghost use Rattle.gorsetumble.specs.FromTexts.{setUpTexts};
 ghost use Rattle.gorsetumble.specs.Code.TextsRead.{unread, textsRead, renewed};
 use machine::Machine;
 use readers::TableRead;
+use table::Platform;
 use table::Refusal;
 use table::Table;
+use writers::TextsWritten;
 use writers::Written;
 
 // Why two texts set up no machine, and which text the refusal is in: 1 the platform, 2 the tasks, 0 neither.
@@ -143,4 +146,30 @@ pub extern "C" fn gorsetumble_ticks(
     ensures { λ r. ⌜ Wrote (ticksText true (now (platform .entry)) true (now (tasks .entry)) true (now (ticks .entry))) (now (out .entry)) r (now (out .exit)) ⌝ }
 {
     runs::ticks(true, platform, true, tasks, true, ticks, out)
+}
+
+#[no_mangle]
+pub extern "C" fn gorsetumble_write_platform(platform: Platform, out: &mut [u8]) -> Written
+    ensures { λ r. ⌜ Wrote (platformText platform) (now (out .entry)) r (now (out .exit)) ⌝ }
+{
+    writers::write_platform(platform, out)
+}
+
+#[no_mangle]
+pub extern "C" fn gorsetumble_write_tasks(table: Table, out: &mut [u8]) -> Written
+    ensures { λ r. ⌜ Wrote (tasksText table) (now (out .entry)) r (now (out .exit)) ⌝ }
+{
+    writers::write_tasks(table, out)
+}
+
+// Both texts of a table, or neither.
+#[no_mangle]
+pub extern "C" fn gorsetumble_write_texts(
+    table: Table,
+    platform: &mut [u8],
+    tasks: &mut [u8],
+) -> TextsWritten
+    ensures { λ r. ⌜ WroteBoth (platformText (table .platform)) (tasksText table) (now (platform .entry)) (now (tasks .entry)) r (now (platform .exit)) (now (tasks .exit)) ⌝ }
+{
+    writers::write_texts(table, platform, tasks)
 }

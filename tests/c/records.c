@@ -1,5 +1,5 @@
-/* The functions that unit exports, called from C: the cases of document 01, rows at the edges of every size, refusals that change nothing,
- * and machines in use that are set up anew. */
+/* Calls with records: the cases of document 01, rows at the edges of every size, refusals that change nothing, and machines in use that are set up
+ * anew. */
 #include "gorsetumble.h"
 
 #include "expect.h"
@@ -7,8 +7,6 @@
 typedef gorsetumble_platform Platform;
 typedef gorsetumble_task Task;
 typedef gorsetumble_machine Machine;
-
-_Static_assert(sizeof(Task) == 16 && sizeof(gorsetumble_table) == 528 && sizeof(gorsetumble_job) == 24 && sizeof(Machine) == 1296, "layout");
 
 static bool refused(gorsetumble_refusal r, uint32_t number, size_t row) { return r.number == number && r.row == row; }
 
@@ -175,8 +173,7 @@ static void machines(void) {
     sets_up("a spoiled machine is set up", &m, one_one, p10, 2, 0, 0);
 }
 
-int main(void) {
+void records(void) {
     answers();
     machines();
-    return counted();
 }

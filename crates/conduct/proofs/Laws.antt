@@ -22,8 +22,9 @@ use Rattle.machine.proofs.Jobs.{readiedJob, readied-table, readied-job}
 use Rattle.machine.proofs.StateParts.{GoodState}
 use Rattle.machine.proofs.StateTest.{state-good, state-test}
 use Rattle.lives.specs.Life as L
-use Rattle.lives.specs.Life.{Allowed, Next}
-use Rattle.conduct.specs.Lives.{row, life}
+use Rattle.lives.specs.Life.{Allowed}
+use Rattle.admission.specs.Test.{row}
+use Rattle.conduct.specs.Lives.{life}
 use Rattle.conduct.specs.Conduct.{FullFor, Conduct}
 use Rattle.conduct.proofs.Accepted.{accepted-is}
 use Rattle.conduct.proofs.Taken.{taken}
@@ -134,9 +135,3 @@ module _ (m : Machine) (R F : ℕ) (len : length (m .table .rows) ≡ mostTasks)
         full = each (t .n) _ full;
         order = each (t .n) _ (λ k l w. each (t .n) _ (λ i h s. behind k i l h w s));
       }
-
--- S-next in one piece
-pub next : {t : Table} {m x : Machine} {R F S : ℕ} → Conduct t m x R F S
-    → Each (t .n) (λ k. Next (row (τ t k)) (T (τ t k)) (life (job m k)) (life (job x k)))
-next {t} {m} {x} {R} {F} {S} c k l h =
-    record { finished = hasTask F k; released = hasTask R k; started = hasTask S k; allowed = c .allows k l h; lands = c .moves k l h }

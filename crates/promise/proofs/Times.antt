@@ -12,6 +12,8 @@ use Rattle.table.specs.Limits.{mostTasks}
 use Rattle.table.specs.Tasks.{τ, D, T}
 use Rattle.sets.specs.TaskSets.{hasTask}
 use Rattle.sets.proofs.Wheres.{where-empty}
+use Rattle.admission.specs.Test.{row, rows}
+use Rattle.machine.specs.declared.Job.{Job}
 use Rattle.machine.specs.declared.Machine.{Machine}
 use Rattle.machine.specs.Jobs.{job, idles}
 use Rattle.machine.specs.Steps.{finish, passed, lateSet}
@@ -19,21 +21,22 @@ use Rattle.machine.specs.Tick.{tickRefusal}
 use Rattle.machine.proofs.Jobs.{passed-job, finished-job, finished-table}
 use Rattle.machine.proofs.StateParts.{Staged}
 use Rattle.lives.specs.Life as L
-use Rattle.lives.specs.Life.{Life, Sound, Good, OnTime}
+use Rattle.lives.specs.Report.{Row}
+use Rattle.lives.specs.Life.{Life, Sound, WithinC, OnTime}
 use Rattle.lives.proofs.OnTime as on-time
-use Rattle.conduct.specs.Lives.{row, life}
+use Rattle.conduct.specs.Lives.{life}
 use Rattle.conduct.proofs.Accepted.{never-13}
 use Rattle.conduct.proofs.Lives.{one-true, shows, life-older, finished-staged, life-finished}
 use Rattle.promise.proofs.Bits.{unfinished}
 
--- each life of m is on time, by the table u
-pub record Timely (u : Table) (m : Machine) (k : ℕ) : Type 0 where
-  pub sound : Sound (row (τ u k))
-  pub good : Good (row (τ u k)) (life (job m k))
-  pub onTime : OnTime (row (τ u k)) (life (job m k))
-  pub staged : Staged (job m k .stage)
+-- the life of a job is on time, by what the table says of its task
+pub record Timely (task : Row) (j : Job) : Type 0 where
+  pub sound : Sound task
+  pub within : WithinC task (life j)
+  pub onTime : OnTime task (life j)
+  pub staged : Staged (j .stage)
 
-module _ (m : Machine) (few : m .table .n ≤ mostTasks) (timely : Each (m .table .n) (Timely (m .table) m)) where
+module _ (m : Machine) (few : m .table .n ≤ mostTasks) (timely : Each (m .table .n) (λ k. Timely (rows (m .table) k) (job m k))) where
   module _ (k : ℕ) (p : 1 ≤ k) (q : k ≤ m .table .n) (F : ℕ) where
     abbrev t : Table
     t = m .table
@@ -59,7 +62,7 @@ module _ (m : Machine) (few : m .table .n ≤ mostTasks) (timely : Each (m .tabl
           shows (job (finish F (passed m)) k) .age,
           ap L.age is,
           b .1,
-          on-time.not-late (row (τ t k)) (T (τ t k)) (g .sound) x (g .good) (g .onTime) (b .0),
+          on-time.not-late (row (τ t k)) (T (τ t k)) (g .sound) x (g .within) (g .onTime) (b .0),
         )
 
     not-late-task : (d : ℕ) → d ≡ D (τ t k)
@@ -77,7 +80,7 @@ module _ (m : Machine) (few : m .table .n ≤ mostTasks) (timely : Each (m .tabl
         let older : life (job (passed m) k) ≡ L.rise (T (τ t k)) x = ap life (passed-job m k p q (omega arith)) ∙ life-older (τ t k) (job m k) in
         let old : T (τ t k) ≤ L.age (L.rise (T (τ t k)) x) = omega (arith, shows (job (passed m) k) .age, ap L.age older) in
         let g = timely k p q in
-        let i = on-time.never-13 (row (τ t k)) (T (τ t k)) (g .sound) x (hasTask F k) (g .good) (g .onTime) old in
+        let i = on-time.never-13 (row (τ t k)) (T (τ t k)) (g .sound) x (hasTask F k) (g .within) (g .onTime) old in
         one-true (idles (finish F (passed m)) k) (sym (shows (job (finish F (passed m)) k) .idles staged) ∙ (ap L.idles is ∙ i))
 
   pub no-late : (F : ℕ) → lateSet m (finish F (passed m)) ≡ 0

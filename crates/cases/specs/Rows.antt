@@ -16,7 +16,7 @@ use Rattle.admission.specs.Test.{loadOf, margin, passes}
 use Rattle.admission.specs.Answers.{fullAnswer}
 use Rattle.machine.specs.declared.Machine.{Machine}
 use Rattle.machine.specs.declared.Ticked.{Ticked}
-use Rattle.machine.specs.Jobs.{job}
+use Rattle.machine.specs.Jobs.{held}
 use Rattle.machine.specs.Fresh.{fresh}
 use Rattle.machine.specs.Tick.{tick}
 use Rattle.promise.specs.Sequences.{Report}
@@ -80,7 +80,7 @@ answered (load2 m b a x) =
     let load : ℕ = loadOf (length a) m b (λ i. entry a i 0) (λ i. entry x i 0) in
     (pos load ∷ pos (load / (m * b)) ∷ []) ∷ []
 answered (ticks t xs) = listing 0 (fresh t) xs
-answered (holds t xs k) = (pos (job (after (fresh t) xs) k .held) ∷ []) ∷ []
+answered (holds t xs k) = (pos (held (after (fresh t) xs) k) ∷ []) ∷ []
 
 -- a case: its number in document 01, what is asked, and the answer that document 01 gives
 pub record Case : Type 0 where

@@ -10,12 +10,12 @@ use Rattle.maths.proofs.Tests.{both}
 use Rattle.table.specs.declared.Table.{Table}
 use Rattle.table.specs.declared.Task.{Task}
 use Rattle.table.specs.Limits.{mostTasks}
-use Rattle.table.specs.Tasks.{τ, T}
+use Rattle.table.specs.Tasks.{τ}
 use Rattle.sets.specs.TaskSets.{hasTask}
 use Rattle.sets.proofs.Wheres.{tasks-has}
 use Rattle.machine.specs.declared.Job.{Job}
 use Rattle.machine.specs.declared.Machine.{Machine}
-use Rattle.machine.specs.Jobs.{isWaiting, job, waits, runs}
+use Rattle.machine.specs.Jobs.{isWaiting, job, top, waits, runs}
 use Rattle.machine.specs.Steps.{finish, passed, lateSet}
 use Rattle.machine.specs.Tick.{readied, moved, startedSet, tickRefusal, accepted, tick}
 use Rattle.machine.proofs.Jobs.{readiedJob, readied-table, readied-job}
@@ -103,13 +103,13 @@ module _ (m : Machine) (R F : ℕ) (len : length (m .table .rows) ≡ mostTasks)
         rw (tick-started m R F ok, tick-moved m R F ok)
         (tasks-has (λ k. waits (readied m R F) k && runs (moved m R F) k) (moved m R F .table .n) (suc i) (omega arith) now-n)
 
-    allows : Allowed (row τi) (L.rise (T τi) (life (job m (suc i)))) (hasTask F (suc i)) (hasTask R (suc i)) (hasTask S (suc i))
+    allows : Allowed (row τi) (L.rise (top τi) (life (job m (suc i)))) (hasTask F (suc i)) (hasTask R (suc i)) (hasTask S (suc i))
     allows =
         rw (started-is, is-readied)
         (allowed τi (hasTask R (suc i)) (hasTask F (suc i)) (job m (suc i)) (job x (suc i))
         (taken m R F (good-before .table .few) (accepted-is m R F ok) (suc i) (omega arith) l))
 
-    moves : L.start (hasTask S (suc i)) (L.release (hasTask R (suc i)) (L.finish (hasTask F (suc i)) (L.rise (T τi) (life (job m (suc i))))))
+    moves : L.start (hasTask S (suc i)) (L.release (hasTask R (suc i)) (L.finish (hasTask F (suc i)) (L.rise (top τi) (life (job m (suc i))))))
         ≡ life (job x (suc i))
     moves =
         rw (started-is, is-readied)

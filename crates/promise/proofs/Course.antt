@@ -7,8 +7,6 @@ use native.Mathlib.Omega.{arith}
 use Rattle.maths.specs.Tasks.{Each}
 use Rattle.maths.proofs.Tasks.{each}
 use Rattle.table.specs.declared.Table.{Table}
-use Rattle.table.specs.Tasks.{τ, T}
-use Rattle.sets.specs.TaskSets.{hasTask}
 use Rattle.admission.specs.Test.{rows}
 use Rattle.machine.specs.Jobs.{job}
 use Rattle.machine.specs.Fresh.{trimmed}
@@ -21,12 +19,8 @@ use Rattle.lives.proofs.InTime.{all-within, all-on-time}
 use Rattle.conduct.specs.Lives.{life}
 use Rattle.promise.specs.Sequences.{Report, Sequence, sequence, count, state, releases, finishes, starts}
 use Rattle.promise.proofs.Bits.{led}
-use Rattle.promise.proofs.Safe.{Safe, good-table, sound, same-row, same-full}
+use Rattle.promise.proofs.Safe.{tops, Safe, good-table, sound, same-row, same-top, same-full}
 use Rattle.promise.proofs.States.{conducts}
-
--- where the age of task k is held
-abbrev pub tops : Table → ℕ → ℕ
-tops t k = T (τ t k)
 
 -- the life of task k in state i
 abbrev pub lives : Sequence → ℕ → ℕ → Life
@@ -40,12 +34,13 @@ module _ (t : Table) (a : Safe t) (xs : List Report) where
   module _ (i : ℕ) (l : i < count (sequence t xs)) where
     pub says : Each (t .n) (λ k. Allowed (rows t k) (rise (tops t k) (lives s i k)) (finishes s i k) (releases s i k) (starts s i k))
     says k p q =
-        subst (λ (r : Row). Allowed r (rise (r .T) (lives s i k)) (finishes s i k) (releases s i k) (starts s i k)) (same-row t a k p q)
-        (conducts t a xs i l .allows k p q)
+        subst (λ (h : ℕ). Allowed (rows t k) (rise h (lives s i k)) (finishes s i k) (releases s i k) (starts s i k)) (same-top t a k p q)
+        (subst (λ (r : Row). Allowed r (rise (tops (trimmed t) k) (lives s i k)) (finishes s i k) (releases s i k) (starts s i k)) (same-row t a k p q)
+        (conducts t a xs i l .allows k p q))
 
     pub does : Each (t .n) (λ k. led (tops t k) (lives s i k) (finishes s i k) (releases s i k) (starts s i k) ≡ lives s (suc i) k)
     does k p q =
-        subst (λ (r : Row). led (r .T) (lives s i k) (finishes s i k) (releases s i k) (starts s i k) ≡ lives s (suc i) k) (same-row t a k p q)
+        subst (λ (h : ℕ). led h (lives s i k) (finishes s i k) (releases s i k) (starts s i k) ≡ lives s (suc i) k) (same-top t a k p q)
         (conducts t a xs i l .moves k p q)
 
   first : Each (t .n) (λ k. lives s 0 k ≡ idle (rows t k .T))

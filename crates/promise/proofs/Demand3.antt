@@ -16,7 +16,7 @@ use Rattle.sets.proofs.Same.{disjoint-bit}
 use Rattle.admission.specs.Test.{rows}
 use Rattle.machine.specs.declared.Answer.{Answer}
 use Rattle.machine.specs.declared.Machine.{Machine}
-use Rattle.machine.specs.Jobs.{job}
+use Rattle.machine.specs.Jobs.{job, held}
 use Rattle.machine.proofs.StateParts.{Staged, GoodState, when-good}
 use Rattle.lives.specs.Report.{Row}
 use Rattle.conduct.proofs.Laws.{tick-refusal, tick-late}
@@ -33,14 +33,14 @@ use Rattle.promise.proofs.Times.{Timely, no-late, no-13}
 
 -- in a good state a partition has one holder
 one-holder : {m : Machine} → GoodState m → (p : ℕ) → Each (m .table .n) (λ k. Each (m .table .n) (λ l.
-    has (job m k .held) p ≡ true → has (job m l .held) p ≡ true → k ≡ l))
+    has (held m k) p ≡ true → has (held m l) p ≡ true → k ≡ l))
 one-holder {m} g p = each (m .table .n) _ (λ i u. each (m .table .n) _ (λ j v. both i j u v))
   where
-    apart : (i j : ℕ) → i < j → j < m .table .n → has (job m (suc i) .held) p ≡ true → has (job m (suc j) .held) p ≡ true → ⊥
+    apart : (i j : ℕ) → i < j → j < m .table .n → has (held m (suc i)) p ≡ true → has (held m (suc j)) p ≡ true → ⊥
     apart i j l v a b =
-        omega (arith, has-true _ p a, has-true _ p b, disjoint-bit (job m (suc i) .held) (job m (suc j) .held) p (g .apart i j l v))
+        omega (arith, has-true _ p a, has-true _ p b, disjoint-bit (held m (suc i)) (held m (suc j)) p (g .apart i j l v))
 
-    both : (i j : ℕ) → i < m .table .n → j < m .table .n → has (job m (suc i) .held) p ≡ true → has (job m (suc j) .held) p ≡ true → suc i ≡ suc j
+    both : (i j : ℕ) → i < m .table .n → j < m .table .n → has (held m (suc i)) p ≡ true → has (held m (suc j)) p ≡ true → suc i ≡ suc j
     both i j u v a b =
         elim (decLt i j) [
           | yes l ↦ absurd (apart i j l v a b)
@@ -85,9 +85,9 @@ module _ (t : Table) (a : Safe t) (xs : List Report) where
       rw (tick-refusal (state s i) (x .released) (x .finished)) (no-13 (state s i) (few i l) (timely i l) (x .released) (x .finished))
 
   one-holder-each : (i : ℕ) → i ≤ count s → (p : ℕ) → Each (t .n) (λ k. Each (t .n) (λ l.
-      has (job (state s i) k .held) p ≡ true → has (job (state s i) l .held) p ≡ true → k ≡ l))
+      has (held (state s i) k) p ≡ true → has (held (state s i) l) p ≡ true → k ≡ l))
   one-holder-each i l p =
-      subst (λ (u : Table). Each (u .n) (λ k. Each (u .n) (λ h. has (job (state s i) k .held) p ≡ true → has (job (state s i) h .held) p ≡ true → k ≡ h)))
+      subst (λ (u : Table). Each (u .n) (λ k. Each (u .n) (λ h. has (held (state s i) k) p ≡ true → has (held (state s i) h) p ≡ true → k ≡ h)))
       (sound t a xs i l .same)
       (one-holder (sound t a xs i l .good) p)
 

@@ -12,9 +12,9 @@ use Rattle.lives.specs.Style.{Unfinished}
 use Rattle.lives.proofs.Ages.{ends-below-deadline}
 use Rattle.promise.specs.Sequences.{Report, Sequence, sequence, count, releases, finishes, starts}
 use Rattle.promise.specs.Promise.{InDeadline, Finished}
-use Rattle.promise.proofs.Safe.{Safe}
+use Rattle.promise.proofs.Safe.{tops, Safe}
 use Rattle.promise.proofs.Bits.{comes-age, was, finishes-there}
-use Rattle.promise.proofs.Course.{tops, lives, says, does, course}
+use Rattle.promise.proofs.Course.{lives, says, does, course}
 
 module _ (t : Table) (a : Safe t) (xs : List Report) (k : ℕ) (p : 1 ≤ k) (q : k ≤ t .n) where
   abbrev s : Sequence

@@ -14,12 +14,17 @@ use Rattle.table.specs.Refused.{refusal}
 use Rattle.table.specs.Tasks.{τ, A}
 use Rattle.table.proofs.Good.{good-of}
 use Rattle.admission.specs.Test.{row, rows, Amax}
+use Rattle.machine.specs.Jobs.{top}
 use Rattle.machine.specs.Fresh.{trimmed, fresh}
 use Rattle.machine.proofs.StateFresh.{fresh-task}
 use Rattle.lives.specs.Report.{Row}
 use Rattle.lives.specs.Life.{Sound}
 use Rattle.lives.specs.Test.{busyCores, busyCache, Weighed}
 use Rattle.conduct.specs.Conduct.{FullWith}
+
+-- where the age of task k is held
+abbrev pub tops : Table → ℕ → ℕ
+tops t k = top (τ t k)
 
 pub record Safe (t : Table) : Type 0 where
   pub whole : length (t .rows) ≡ mostTasks
@@ -40,6 +45,9 @@ module _ (t : Table) (safe : Safe t) where
   pub same-row : Each (t .n) (λ k. rows (trimmed t) k ≡ rows t k)
   unfolding fresh
   same-row = each (t .n) _ (λ i l. ap row (fresh-task t i (omega (arith, good-table .few)) l))
+
+  pub same-top : Each (t .n) (λ k. tops (trimmed t) k ≡ tops t k)
+  same-top k p q = ap (λ (r : Row). r .T) (same-row k p q)
 
   same-A : Each (t .n) (λ k. A (τ (trimmed t) k) ≡ A (τ t k))
   same-A k p q = ap (λ (r : Row). r .A) (same-row k p q)

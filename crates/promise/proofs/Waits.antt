@@ -12,9 +12,9 @@ use Rattle.lives.specs.Style.{Unfinished}
 use Rattle.lives.proofs.Ages.{waits-below-slack, runs-below-slack}
 use Rattle.promise.specs.Sequences.{Report, Sequence, sequence, count, releases, finishes, starts}
 use Rattle.promise.specs.Promise.{InSlack}
-use Rattle.promise.proofs.Safe.{Safe}
+use Rattle.promise.proofs.Safe.{tops, Safe}
 use Rattle.promise.proofs.Bits.{led, comes-age, waits-on}
-use Rattle.promise.proofs.Course.{tops, lives, says, does, course}
+use Rattle.promise.proofs.Course.{lives, says, does, course}
 
 -- a job that waits or runs is there
 waits-there : (x : Life) → waits x ≡ 1 → idles x ≡ 0

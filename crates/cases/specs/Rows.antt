@@ -19,7 +19,7 @@ use Rattle.admission.specs.declared.FullAnswer.{FullAnswer}
 use Rattle.admission.specs.Answers.{fullAnswer}
 use Rattle.machine.specs.declared.Machine.{Machine}
 use Rattle.machine.specs.declared.Ticked.{Ticked}
-use Rattle.machine.specs.Jobs.{job}
+use Rattle.machine.specs.Jobs.{held}
 use Rattle.machine.specs.Fresh.{fresh}
 use Rattle.readers.specs.declared.Tick.{Tick}
 use Rattle.readers.specs.Inputs.{noPlatform}
@@ -94,7 +94,7 @@ answered (load2 m b a x) =
     let load : ℕ = loadOf (length a) m b (λ i. entry a i 0) (λ i. entry x i 0) in
     numbers ((pos load ∷ pos (load / (m * b)) ∷ []) ∷ [])
 answered (ticked f xs) = numbers (tickedRows (fresh (tableIn f)) xs)
-answered (holds f xs k) = numbers ((pos (job (after (fresh (tableIn f)) xs) k .held) ∷ []) ∷ [])
+answered (holds f xs k) = numbers ((pos (held (after (fresh (tableIn f)) xs) k) ∷ []) ∷ [])
 answered (refusalOf f) = numbers ((pos (refusalIn f .number) ∷ pos (refusalIn f .row) ∷ []) ∷ [])
 
 -- a case: its number in document 01 (0 for its last line, which has none), what is asked, and the answer that document 01 gives

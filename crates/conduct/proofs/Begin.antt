@@ -19,7 +19,7 @@ use Rattle.sets.proofs.Choices.{choice-lt, choice-free, choice-size}
 use Rattle.sets.proofs.Holders.{apart-take}
 use Rattle.machine.specs.declared.Job.{Job}
 use Rattle.machine.specs.declared.Machine.{Machine}
-use Rattle.machine.specs.Jobs.{isWaiting, isRunning, noJob, job, waits, runs, running, busy, idlePartitions, idleCount}
+use Rattle.machine.specs.Jobs.{isWaiting, isRunning, noJob, job, held, waits, runs, running, busy, idlePartitions, idleCount}
 use Rattle.machine.specs.Steps.{fits, begun, start}
 use Rattle.machine.proofs.Jobs.{start-same, start-other}
 use Rattle.machine.proofs.StateParts.{waits-not-runs, is-running, GoodJob, GoodState}
@@ -70,13 +70,13 @@ module _ (m : Machine) (i : ℕ) (w : waits m (suc i) ≡ true) where
           | no e ↦ rw (start-other m i j e) (g .each j h)
         ]
 
-    apart : Apart (m .table .n) (λ j. job (start m i) (suc j) .held)
+    apart : Apart (m .table .n) (λ j. held (start m i) (suc j))
     unfolding busy
     apart =
-        apart-take (λ j. job m (suc j) .held) (λ j. job (start m i) (suc j) .held) (m .table .n) i l
+        apart-take (λ j. held m (suc j)) (λ j. held (start m i) (suc j)) (m .table .n) i l
         (λ j h e. ap (λ (x : Job). x .held) (start-other m i j e))
         (g .apart)
-        (rw new-job (choice-free (below (P (m .table))) (busy m) (A (τ (m .table) (suc i)))))
+        (rw (held, new-job) (choice-free (below (P (m .table))) (busy m) (A (τ (m .table) (suc i)))))
 
     one-more : running (start m i) ≡ suc (running m)
     unfolding running

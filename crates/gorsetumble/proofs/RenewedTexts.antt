@@ -39,8 +39,8 @@ use denote.Triple.Walked.{says, Stays, stay-ref, stay-none, stay-none-slice, wal
 use Rattle.gorsetumble.specs.declared.texting.TextRefusal.{TextRefusal}
 use Rattle.gorsetumble.specs.declared.texting.TextsRead.{TextsRead}
 use Rattle.gorsetumble.specs.Code.TextsRead.{textsRead}
-use Rattle.gorsetumble.proofs.Data.{Data, Value, row, ty, val, vals, Fits, told, made, typed, parts, two, fst-fits, snd-fits}
-use Rattle.gorsetumble.proofs.Walk.{by-value, calls-plain}
+use Rattle.lent.proofs.Data.{Data, Value, row, ty, val, vals, Fits, told, made, typed, parts, two, fst-fits, snd-fits}
+use Rattle.lent.proofs.Walk.{by-value, calls-plain}
 use Rattle.gorsetumble.proofs.TextsRows.{TextsOf, Text, text, textRefusal, texts, calls-texts}
 use Rattle.gorsetumble.proofs.texting.read_texts.Symbol.{name as #texts}
 

@@ -28,8 +28,8 @@ use Rattle.gorsetumble.proofs.texting.TextRefusal as N
 use Rattle.gorsetumble.proofs.texting.TextRefusal.Laws as N′
 use Rattle.gorsetumble.proofs.texting.TextsRead as R
 use Rattle.gorsetumble.proofs.texting.TextsRead.Laws as R′
-use Rattle.gorsetumble.proofs.Data.{Data, val, vals, Fits, told}
-use Rattle.gorsetumble.proofs.Walk.{calls-told}
+use Rattle.lent.proofs.Data.{Data, val, vals, Fits, told}
+use Rattle.lent.proofs.Walk.{calls-told}
 use Rattle.gorsetumble.proofs.texting.read_texts as read-texts
 
 abbrev pub textRefusal : Data

@@ -54,7 +54,7 @@ impl Run {
         let before = self.taken;
         let m = self.machine;
         let x = readers::tick_at(s, self.at);
-        let t = ticking::tick(m, x.tick.released, x.tick.finished);
+        let t = lent::ticked(m, x.tick.released, x.tick.finished);
         let moved = t.machine;
         let a = t.answer;
         let refused = a.refused;

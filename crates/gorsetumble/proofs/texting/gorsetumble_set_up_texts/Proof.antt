@@ -12,7 +12,7 @@ use Rattle.gorsetumble.proofs.texting.renew.Symbol.{name as #work}
 use Rattle.gorsetumble.proofs.texting.renew.Met as work-thm
 use Rattle.gorsetumble.proofs.RenewedTexts.{meets}
 use Rattle.gorsetumble.proofs.TextsRows.{TextsOf}
-use Rattle.gorsetumble.proofs.Tables.{machine}
+use Rattle.lent.proofs.Machines.{machine}
 use Rattle.gorsetumble.proofs.texting.read_texts.Symbol as table-of-def
 use Rattle.gorsetumble.proofs.texting.read_texts.Symbol.{name as #table-of}
 use Rattle.gorsetumble.proofs.texting.read_texts.Met as table-of-thm

@@ -32,8 +32,8 @@ use denote.Triple.Entry.{onEntry}
 use denote.Triple.Statement.{Triple}
 use denote.Triple.Spec.{Meets, tripleOf}
 use denote.Triple.Walked.{says, Stays, stay-ref, stay-none, walkOf, goes-ref, goes-none, ends-at, walked, walk-meets}
-use Rattle.gorsetumble.proofs.Data.{Data, Value, row, ty, val, vals, Fits, told, made, typed, parts, two, fst-fits, snd-fits}
-use Rattle.gorsetumble.proofs.Walk.{by-value, calls-plain}
+use Rattle.lent.proofs.Data.{Data, Value, row, ty, val, vals, Fits, told, made, typed, parts, two, fst-fits, snd-fits}
+use Rattle.lent.proofs.Walk.{by-value, calls-plain}
 
 -- the machine's type, the answer's, the covered function's result, a struct of the two, and what that function computes
 module _ (T N : Data) (ν : Sym) (D : Type 0) (machine : D → Value T) (answer : D → Value N) (one : (x y : D) → parts T N ν D machine answer x ≡ parts T N ν D machine answer y → x ≡ y) (f : Value T → ℕ → ℕ → D) (#work : Name) where

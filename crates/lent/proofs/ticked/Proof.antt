@@ -36,18 +36,18 @@ use Rattle.machine.specs.declared.Machine.{Machine}
 use Rattle.machine.specs.declared.Ticked.{Ticked}
 use Rattle.machine.specs.Tick.{tick}
 use Rattle.machine.proofs.Ticked as S′
-use Rattle.gorsetumble.proofs.Data.{Data, row, val, vals, Fits, told, made, typed, two, both-fit}
-use Rattle.gorsetumble.proofs.Lends.{ref-to, lends-local, local-back}
-use Rattle.gorsetumble.proofs.Tables.{machine, answer}
-use Rattle.gorsetumble.proofs.Walk.{calls-told}
-use Rattle.gorsetumble.proofs.gorsetumble_tick as lent-tick
-use Rattle.gorsetumble.proofs.gorsetumble_tick.Symbol as lent-tick-def
-use Rattle.gorsetumble.proofs.gorsetumble_tick.Symbol.{name as #lent-tick}
-use Rattle.gorsetumble.proofs.gorsetumble_tick.Met as lent-tick-thm
-use Rattle.gorsetumble.proofs.lending.ticked as own
-use Rattle.gorsetumble.proofs.lending.ticked.Key.{name as #own}
-use Rattle.gorsetumble.proofs.lending.ticked.Statement as stated
-use Rattle.gorsetumble.proofs.lending.ticked.Code as code
+use Rattle.lent.proofs.Data.{Data, row, val, vals, Fits, told, made, typed, two, both-fit}
+use Rattle.lent.proofs.Lends.{ref-to, lends-local, local-back}
+use Rattle.lent.proofs.Machines.{machine, answer}
+use Rattle.lent.proofs.Walk.{calls-told}
+use Rattle.lent.proofs.tick as lent-tick
+use Rattle.lent.proofs.tick.Symbol as lent-tick-def
+use Rattle.lent.proofs.tick.Symbol.{name as #lent-tick}
+use Rattle.lent.proofs.tick.Met as lent-tick-thm
+use Rattle.lent.proofs.ticked as own
+use Rattle.lent.proofs.ticked.Key.{name as #own}
+use Rattle.lent.proofs.ticked.Statement as stated
+use Rattle.lent.proofs.ticked.Code as code
 
 abbrev stayed : Stays (own.ended .signature .params) (own.ended .kept)
 stayed = (stay-none (λ _. row machine) yes, (stay-none (λ _. u32) yes, (stay-none (λ _. u32) yes, tt)))
@@ -129,4 +129,4 @@ ticked-spec 𝓤 H 𝓜 𝓖 𝓡 =
     entered 𝓤 H (tripleOf 𝓤 H (𝓖 .A) own.signature (own.spec 𝓤 H (𝓖 .A) (𝓜 .mem) (𝓡 .run)))
     (tables 𝓤 H 𝓜 𝓡 code.env .C) (tables 𝓤 H 𝓜 𝓡 code.env .Λ) #own code.function (code.unfolded 𝓤 H 𝓜 𝓡)
     (meets 𝓤 H (𝓖 .A) (givenOf 𝓤 H 𝓜 𝓖) (𝓜 .mem) (𝓡 .run) (tablesOf 𝓤 H 𝓜 (tables 𝓤 H 𝓜 𝓡 code.env))
-    (cited 𝓤 H (Ticks 𝓤 H (𝓖 .A) (𝓜 .mem) (𝓡 .run)) 𝓜 𝓡 code.env #lent-tick lent-tick-def.routine code.calls-gorsetumble·gorsetumble-tick (lent-tick-thm.met 𝓤 H 𝓜 𝓖 𝓡)))
+    (cited 𝓤 H (Ticks 𝓤 H (𝓖 .A) (𝓜 .mem) (𝓡 .run)) 𝓜 𝓡 code.env #lent-tick lent-tick-def.routine code.calls-lent·tick (lent-tick-thm.met 𝓤 H 𝓜 𝓖 𝓡)))

@@ -1,3 +1,5 @@
+pub mod Board
+pub mod BoardTable
 pub mod Cut
 pub mod Data
 pub mod Demands

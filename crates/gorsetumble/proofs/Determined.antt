@@ -8,6 +8,7 @@ use Rattle.table.specs.declared.Platform.{Platform}
 use Rattle.table.specs.declared.Task.{Task}
 use Rattle.table.specs.declared.Table.{Table}
 use Rattle.table.specs.declared.Refusal.{Refusal}
+use Rattle.table.specs.Tasks.{tableOf}
 use Rattle.admission.specs.declared.FullAnswer.{FullAnswer}
 use Rattle.admission.specs.declared.QuickAnswer.{QuickAnswer}
 use Rattle.admission.specs.Answers.{fullAnswer, quickAnswer}
@@ -17,7 +18,6 @@ use Rattle.machine.specs.declared.SetUp.{SetUp}
 use Rattle.machine.specs.declared.Ticked.{Ticked}
 use Rattle.machine.specs.Fresh.{setUp}
 use Rattle.machine.specs.Tick.{tick}
-use Rattle.gorsetumble.specs.Lent.{tableOf}
 
 module _ (p : Platform) (rows : List Task) where
   pub table-of-determined : (r s : Table) → r ≡ tableOf p rows → s ≡ tableOf p rows → r ≡ s

@@ -1,3 +1,4 @@
+pub mod Board
 pub mod Contracts
 pub mod Cut
 pub mod Demands

@@ -11,6 +11,7 @@ use Rattle.table.specs.declared.Task.{Task}
 use Rattle.table.specs.declared.Refusal.{Refusal}
 use Rattle.table.specs.Limits.{mostTasks}
 use Rattle.table.specs.Refused.{refusal}
+use Rattle.table.specs.Tasks.{tableOf}
 use Rattle.admission.specs.Answers.{fullAnswer, quickAnswer}
 use Rattle.admission.specs.declared.FullAnswer.{FullAnswer}
 use Rattle.admission.specs.declared.QuickAnswer.{QuickAnswer}
@@ -20,7 +21,6 @@ use Rattle.machine.specs.Jobs.{job}
 use Rattle.machine.specs.Tick.{refusedAnswer, tick}
 use Rattle.promise.specs.Sequences.{Report, Sequence, steps}
 use Rattle.promise.specs.Promise.{Kept}
-use Rattle.gorsetumble.specs.Lent.{tableOf}
 
 pub record Demand1 : Type 0 where
   -- A set-up that is refused leaves the machine as it was lent.

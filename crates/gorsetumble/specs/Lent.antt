@@ -10,9 +10,6 @@ use Rattle.table.specs.declared.Table.{Table}
 use Rattle.table.specs.Limits.{mostTasks}
 use Rattle.table.specs.Tasks.{noTask}
 
-abbrev pub tableOf : Platform → List Task → Table
-tableOf platform rows = record { platform = platform; n = length rows; rows = tabulate mostTasks (λ k. entry rows k noTask) }
-
 -- a table that says n rows and has none, and a table with a row put in
 abbrev pub noRows : Platform → ℕ → Table
 noRows platform n = record { platform = platform; n = n; rows = tabulate mostTasks (λ k. noTask) }

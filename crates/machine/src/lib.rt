@@ -5,6 +5,8 @@ mod refusing;
 mod state;
 mod tick;
 
+use table::Cores;
+use table::Partitions;
 use table::Refusal;
 use table::Table;
 use table::Task;
@@ -47,14 +49,14 @@ pub struct Ticked {
     pub answer: Answer,
 }
 
-// What a tick's first pass found so far: the state is good; the first of refusals 10 to 13; how many jobs run and what they hold, and
-// how many of them go on running after step 2, and what those hold.
+// What a tick's first pass found so far: the state is good; the first of refusals 10 to 13; the cores that running jobs have and the
+// partitions that they hold, and those of the jobs that go on running after step 2.
 struct Look {
     good: bool,
     refused: Refusal,
-    running: u32,
+    running: Cores,
     held: u64,
-    stays: u32,
+    stays: Cores,
     busy: u64,
 }
 
@@ -64,14 +66,14 @@ struct Past {
     job: Job,
 }
 
-// What a tick's second pass made so far: the job that it came to last; whether step 5 goes on, with how many running jobs, which
-// idle partitions and how many; and the sets to answer.
+// What a tick's second pass made so far: the job that it came to last; whether step 5 goes on, with how many idle cores, which idle
+// partitions and how many; and the sets to answer.
 struct Walk {
     job: Job,
     goes: bool,
-    running: u32,
+    cores: Cores,
     idle: u64,
-    room: u32,
+    partitions: Partitions,
     late: u32,
     started: u32,
 }

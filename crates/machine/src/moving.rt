@@ -1,16 +1,17 @@
 // The second pass of a tick: it takes each task through steps 1 to 5.
 ghost use mathlib.Core.Path.{_≡_};
 ghost use mathlib.Core.Bool.{true, cond};
-ghost use Prim.Native.Nat.{_+_, _<_, _≤_, min};
-ghost use Rattle.table.specs.Limits.{mostTasks, longestPeriod};
+ghost use Prim.Native.Nat.{_+_, _≤_, min};
+ghost use Rattle.table.specs.Limits.{longestPeriod};
 ghost use Rattle.machine.specs.Steps.{older, awaiting};
-ghost use Rattle.machine.specs.Passes.{finishedJob, walkStart, isLate, tries, hasRoom, walkGo, walkBy, walkBegin, lateWith, walkWith};
+ghost use Rattle.machine.specs.Passes.{finishedJob, coresLess, walkStart, isLate, tries, hasRoom, walkGo, walkBy, walkBegin, lateWith, walkWith};
 use crate::Job;
 use crate::Look;
 use crate::Stage;
 use crate::Walk;
 use table::Cores;
 use table::Partitions;
+use table::Platform;
 use table::Task;
 
 // An age one tick on, held at T.
@@ -89,17 +90,27 @@ fn late_with(k: usize, task: Task, before: u32, j: Job, late: u32) -> u32
     late
 }
 
+// The cores that running jobs leave idle. Total, so that a pass over a refused state can start.
+fn cores_less(cores: Cores, busy: Cores) -> Cores
+    ensures { λ r. ⌜ r ≡ coresLess cores busy ⌝ }
+{
+    if cores.0 < busy.0 {
+        return Cores(0);
+    }
+    Cores(cores.0 - busy.0)
+}
+
 impl Walk {
-    pub(crate) fn start(p: Partitions, look: Look) -> Walk
-        ensures { λ r. ⌜ r ≡ walkStart (p .0) look ⌝ }
+    pub(crate) fn start(platform: Platform, look: Look) -> Walk
+        ensures { λ r. ⌜ r ≡ walkStart platform look ⌝ }
     {
-        let idle = sets::without(sets::below(p.0), look.busy);
+        let idle = sets::without(sets::below(platform.partitions), look.busy);
         Walk {
             job: Job::none(),
             goes: true,
-            running: look.stays,
+            cores: cores_less(platform.cores, look.stays),
             idle: idle,
-            room: sets::size(idle),
+            partitions: sets::size(idle),
             late: 0,
             started: 0,
         }
@@ -114,22 +125,22 @@ impl Walk {
         j.stage.is_waiting()
     }
 
-    // Fewer than M jobs run and at least A partitions are idle.
-    fn has_room(self, cores: Cores, task: Task) -> bool
-        ensures { λ r. ⌜ r ≡ hasRoom (cores .0) task self ⌝ }
+    // At least one core and A partitions are idle.
+    fn has_room(self, task: Task) -> bool
+        ensures { λ r. ⌜ r ≡ hasRoom task self ⌝ }
     {
-        if cores.0 <= self.running {
+        if self.cores.0 < 1 {
             return false;
         }
-        task.a.0 <= self.room
+        task.a.0 <= self.partitions.0
     }
 
     // The task starts.
     fn go(self, k: usize, task: Task, j: Job, late: u32) -> Walk
-        requires { ⌜ (self .goes ≡ true) × (self .running < mostTasks + mostTasks) × (task .a .0 ≤ self .room) ⌝ }
+        requires { ⌜ (self .goes ≡ true) × (1 ≤ self .cores .0) × (task .a .0 ≤ self .partitions .0) ⌝ }
         ensures { λ r. ⌜ r ≡ walkGo k task j late self ⌝ }
     {
-        let held = sets::choose(self.idle, task.a.0);
+        let held = sets::choose(self.idle, task.a);
         let mut w = self;
         let job = Job {
             stage: Stage::RUNNING,
@@ -138,9 +149,11 @@ impl Walk {
             held: held,
         };
         w.job = job;
-        w.running = self.running + 1;
+        let cores = Cores(self.cores.0 - 1);
+        w.cores = cores;
         w.idle = sets::without(self.idle, held);
-        w.room = self.room - task.a.0;
+        let partitions = Partitions(self.partitions.0 - task.a.0);
+        w.partitions = partitions;
         w.late = late;
         w.started = self.started | sets::task_bit(k);
         w
@@ -158,31 +171,22 @@ impl Walk {
     }
 
     // Step 5, of task k with the job that steps 1, 2 and 4 left it.
-    fn begin(self, k: usize, cores: Cores, task: Task, j: Job, late: u32) -> Walk
-        requires { ⌜ self .running < mostTasks + mostTasks ⌝ }
-        ensures { λ r. ⌜ r ≡ walkBegin k (cores .0) task j late self ⌝ }
+    fn begin(self, k: usize, task: Task, j: Job, late: u32) -> Walk
+        ensures { λ r. ⌜ r ≡ walkBegin k task j late self ⌝ }
     {
         if !self.tries(j) {
             return self.by(self.goes, j, late);
         }
-        if !self.has_room(cores, task) {
+        if !self.has_room(task) {
             return self.by(false, j, late);
         }
         self.go(k, task, j, late)
     }
 
     // Task k more.
-    pub(crate) fn with(
-        self,
-        k: usize,
-        cores: Cores,
-        task: Task,
-        j: Job,
-        released: u32,
-        finished: u32,
-    ) -> Walk
-        requires { ⌜ (self .running < mostTasks + mostTasks) × (j .ran ≤ longestPeriod) × (j .age ≤ longestPeriod) ⌝ }
-        ensures { λ r. ⌜ r ≡ walkWith k (cores .0) task j released finished self ⌝ }
+    pub(crate) fn with(self, k: usize, task: Task, j: Job, released: u32, finished: u32) -> Walk
+        requires { ⌜ (j .ran ≤ longestPeriod) × (j .age ≤ longestPeriod) ⌝ }
+        ensures { λ r. ⌜ r ≡ walkWith k task j released finished self ⌝ }
     {
         if j.is_left(released | finished, k) {
             return self.by(self.goes, older_job(task, j), self.late);
@@ -190,6 +194,6 @@ impl Walk {
         let ended = finished_job(task, j, sets::has_task(finished, k));
         let late = late_with(k, task, j.age, ended, self.late);
         let ready = released_job(ended, sets::has_task(released, k));
-        self.begin(k, cores, task, ready, late)
+        self.begin(k, task, ready, late)
     }
 }

@@ -102,10 +102,11 @@ impl Job {
         if self.age < self.ran {
             return false;
         }
-        if sets::size(self.held) != task.a.0 {
+        let held = sets::size(self.held);
+        if held.0 != task.a.0 {
             return false;
         }
-        sets::without(self.held, sets::below(p.0)) == 0
+        sets::without(self.held, sets::below(p)) == 0
     }
 
     // What is asked of the job of a task, on a cache of p partitions.

@@ -57,17 +57,10 @@ impl Machine {
         let marks = past.marks();
         let refused = refusal_of(look, marks, t.platform.cores, t.n, released | finished);
         let moved = accepted_tasks(refused, n);
-        let mut walk = Walk::start(t.platform.partitions, look);
+        let mut walk = Walk::start(t.platform, look);
         let mut i: usize = 0;
         while i < moved {
-            walk = walk.with(
-                i + 1,
-                t.platform.cores,
-                t.rows[i],
-                jobs[i],
-                released,
-                finished,
-            );
+            walk = walk.with(i + 1, t.rows[i], jobs[i], released, finished);
             let job = walk.job;
             jobs[i] = job;
             i += 1;

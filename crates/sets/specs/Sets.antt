@@ -6,6 +6,8 @@ use mathlib.Core.Bool.{Bool, cond}
 use mathlib.Core.List.{List, [], _∷_, _++_}
 use lib.Bits.{bitAnd, bitOr}
 use lib.Dec.{eqb}
+use Rattle.table.specs.declared.Partitions.{Partitions}
+use Rattle.table.specs.Limits.{mostPartitions}
 
 -- 1 where p is in the set x, and 0 where it is not
 abbrev pub bit : ℕ → ℕ → ℕ
@@ -22,6 +24,10 @@ Within x y = (p : ℕ) → bit x p ≤ bit y p
 unfoldable pub size : ℕ → ℕ → ℕ
 size zero x = 0
 size (suc w) x = size w x + bit x w
+
+-- how many partitions a set of them has
+abbrev pub partitionsIn : ℕ → Partitions
+partitionsIn x = record { 0 = size mostPartitions x }
 
 -- the members of x below w, in ascending order
 unfoldable pub members : ℕ → ℕ → List ℕ

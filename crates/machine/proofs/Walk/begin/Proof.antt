@@ -1,6 +1,6 @@
 use mathlib.Core.Path.{sym, _∙_}
 use borrow.Author.Tests.{leb-true, not-true, not-false}
-use lib.Dec.{ltb}
+use lib.Dec.{leb}
 use Rattle.maths.proofs.Tests.{both}
 use Rattle.table.specs.Tasks.{A}
 use borrow.Author.Needs.{needs}
@@ -31,9 +31,9 @@ go-requires : tie.Need-go-requires
 go-requires c κs =
     let e = c .before in
     let s = e .before .before .before in
-    let room = both (ltb (s .args .self .running) (s .args .cores .0)) _ (sym (e .has-room .ensures) ∙ not-false _ (c .if2 .left)) in
+    let room = both (leb 1 (s .args .self .cores .0)) _ (sym (e .has-room .ensures) ∙ not-false _ (c .if2 .left)) in
     let goes = both (s .args .self .goes) _ (sym (e .before .before .tries .ensures) ∙ not-false _ (e .before .if1 .left)) in
-    (goes .0, s .pre, leb-true (A (s .args .task)) (s .args .self .room) (room .1))
+    (goes .0, leb-true 1 (s .args .self .cores .0) (room .0), leb-true (A (s .args .task)) (s .args .self .partitions .0) (room .1))
 
 returns-3 : tie.Need-returns-3
 returns-3 c =

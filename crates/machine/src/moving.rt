@@ -3,8 +3,8 @@ ghost use mathlib.Core.Path.{_≡_};
 ghost use mathlib.Core.Bool.{true, cond};
 ghost use Prim.Native.Nat.{_+_, _≤_, min};
 ghost use Rattle.table.specs.Limits.{longestPeriod};
-ghost use Rattle.machine.specs.Steps.{older, awaiting};
-ghost use Rattle.machine.specs.Passes.{finishedJob, coresLess, walkStart, isLate, tries, hasRoom, walkGo, walkBy, walkBegin, lateWith, walkWith};
+ghost use Rattle.machine.specs.Steps.{older, awaiting, fitsIn};
+ghost use Rattle.machine.specs.Passes.{finishedJob, coresLess, walkStart, isLate, tries, walkGo, walkBy, walkBegin, lateWith, walkWith};
 use crate::Job;
 use crate::Look;
 use crate::Stage;
@@ -100,6 +100,16 @@ fn cores_less(cores: Cores, busy: Cores) -> Cores
     Cores(cores.0 - busy.0)
 }
 
+// At least one core and A partitions are idle.
+fn fits_in(cores: Cores, partitions: Partitions, task: Task) -> bool
+    ensures { λ r. ⌜ r ≡ fitsIn cores partitions task ⌝ }
+{
+    if cores.0 < 1 {
+        return false;
+    }
+    task.a.0 <= partitions.0
+}
+
 impl Walk {
     pub(crate) fn start(platform: Platform, look: Look) -> Walk
         ensures { λ r. ⌜ r ≡ walkStart platform look ⌝ }
@@ -123,16 +133,6 @@ impl Walk {
             return false;
         }
         j.stage.is_waiting()
-    }
-
-    // At least one core and A partitions are idle.
-    fn has_room(self, task: Task) -> bool
-        ensures { λ r. ⌜ r ≡ hasRoom task self ⌝ }
-    {
-        if self.cores.0 < 1 {
-            return false;
-        }
-        task.a.0 <= self.partitions.0
     }
 
     // The task starts.
@@ -177,7 +177,7 @@ impl Walk {
         if !self.tries(j) {
             return self.by(self.goes, j, late);
         }
-        if !self.has_room(task) {
+        if !fits_in(self.cores, self.partitions, task) {
             return self.by(false, j, late);
         }
         self.go(k, task, j, late)

@@ -3,12 +3,9 @@ use Prim.Native.Nat.{ℕ, min}
 use mathlib.Core.Path.{_≡_}
 use mathlib.Core.Bool.{Bool}
 use Rattle.maths.proofs.Determined.{determined}
-use Rattle.sets.specs.Sets.{has, size, below, without}
+use Rattle.sets.specs.Sets.{size, below, without}
 use Rattle.sets.specs.TaskSets.{hasTask, taskBit}
 use Rattle.sets.specs.Choice.{choice}
-
-pub has-determined : (x p : ℕ) (r s : Bool) → r ≡ has x p → s ≡ has x p → r ≡ s
-has-determined x p = determined (has x p)
 
 pub has-task-determined : (x k : ℕ) (r s : Bool) → r ≡ hasTask x k → s ≡ hasTask x k → r ≡ s
 has-task-determined x k = determined (hasTask x k)

@@ -10,7 +10,8 @@ use lib.Arith.{sub-sub-self}
 use lib.Bits.{bitAnd, and-block, and-self, and-shifted, and-le-l, and-zero-r}
 use lib.Pow.{pow-pos, pow-lt, split, ones-lt}
 use Rattle.sets.specs.Sets.{bit, size, without, Within}
-use Rattle.sets.specs.Choice.{choice, less}
+use Rattle.sets.specs.Choice.{choice}
+use Rattle.sets.specs.Code.Less.{less}
 use Rattle.sets.proofs.Bits.{bit-cases, bit-lt, bit-zero, bit-without, bit-pow-same, bit-pow-other, bit-mod, mod-more}
 use Rattle.sets.proofs.Same.{ext, and-within}
 use Rattle.sets.proofs.Sizes.{size-zero, size-same, size-pow, size-without}

@@ -1,19 +1,10 @@
 // Sets of tasks and of partitions as numbers, and the choice of partitions for a starting job.
 ghost use mathlib.Core.Path.{_≡_};
 ghost use Prim.Native.Nat.{min};
-ghost use Rattle.sets.specs.Sets.{has, size, below, without};
+ghost use Rattle.sets.specs.Sets.{size, below, without};
 ghost use Rattle.sets.specs.TaskSets.{hasTask, taskBit};
-ghost use Rattle.sets.specs.Choice.{choice, less};
-
-// Partition p is in the set.
-pub fn has(x: u64, p: u32) -> bool
-    ensures { λ r. ⌜ r ≡ has x p ⌝ }
-{
-    if p < 64 {
-        return (x >> p) % 2 == 1;
-    }
-    false
-}
+ghost use Rattle.sets.specs.Choice.{choice};
+ghost use Rattle.sets.specs.Code.Less.{less};
 
 // Task k is in the set.
 pub fn has_task(x: u32, k: usize) -> bool

@@ -20,13 +20,11 @@ use Rattle.machine.specs.Conditions.{goodState}
 use Rattle.machine.specs.Steps.{passed, finish, lateSet}
 use Rattle.ticking.specs.Code.Passes.{walkStart}
 use Rattle.machine.specs.Tick.{tickRefusal, readied, moved, startedSet, accepted, refusedAnswer, tick}
+use Rattle.machine.proofs.Jobs.{machineOf}
 use Rattle.ticking.proofs.TickJudge.{Accepts, accepts}
 use Rattle.ticking.proofs.TickLook.{lookTo, Looked}
 use Rattle.ticking.proofs.TickSteps.{moved-is, started-so, late-so}
 use Rattle.ticking.proofs.TickWalk.{walkTo, walk-none}
-
-abbrev pub machineOf : Table → List Job → Machine
-machineOf t js = record { table = t; jobs = js }
 
 module _ (m : Machine) (released finished : ℕ) where
   -- the entries of tasks 1 to n, the first pass and the second

@@ -3,7 +3,7 @@ use mathlib.Core.Path.{_≡_}
 use lib.ListN.{length}
 use Rattle.maths.proofs.Lists.{len-mapped}
 use Rattle.table.specs.Limits.{mostTasks}
-use Rattle.ticking.proofs.TickCode.{machineOf}
+use Rattle.machine.proofs.Jobs.{machineOf}
 use Rattle.ticking.proofs.TickLoops.{Judging, judging-none, judging-turn, judging-more, Ending, ending-none, ending-more, ending-few, Moving, moving-none, moving-turn, moving-more, moving-ends}
 use borrow.Author.Needs.{needs}
 use Rattle.ticking.proofs.tick.Statement.{statement}

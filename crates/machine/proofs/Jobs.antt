@@ -18,7 +18,7 @@ use Rattle.sets.specs.TaskSets.{hasTask}
 use Rattle.sets.specs.Choice.{choice}
 use Rattle.machine.specs.declared.Job.{Job}
 use Rattle.machine.specs.declared.Machine.{Machine}
-use Rattle.machine.specs.Jobs.{noJob, job, idlePartitions}
+use Rattle.machine.specs.Jobs.{noJob, job, idleSet}
 use Rattle.machine.specs.Steps.{forTasks, older, passed, ended, finish, awaiting, release, begun, start}
 pub use Rattle.machine.specs.Code.Readied.{finishedJob, readiedJob}
 use Rattle.machine.specs.Tick.{readied}
@@ -113,7 +113,7 @@ module _ (m : Machine) (released finished : ℕ) where
 -- a start changes one job
 module _ (m : Machine) (i : ℕ) where
   pub start-same : i < length (m .jobs)
-      → job (start m i) (suc i) ≡ begun (choice (idlePartitions m) (A (τ (m .table) (suc i)))) (job m (suc i))
+      → job (start m i) (suc i) ≡ begun (choice (idleSet m) (A (τ (m .table) (suc i)))) (job m (suc i))
   start-same l = getD-set-same (m .jobs) i _ noJob l
 
   pub start-other : (j : ℕ) → j ≢ i → job (start m i) (suc j) ≡ job m (suc j)

@@ -7,9 +7,7 @@ use native.Mathlib.Omega.{arith}
 use lib.ListN.{length}
 use Rattle.maths.proofs.Arrays.{upTo, up-none, tabulate-entry}
 use Rattle.table.specs.declared.Refusal.{Refusal}
-use Rattle.table.specs.declared.Table.{Table}
 use Rattle.table.specs.Limits.{mostTasks}
-use Rattle.table.specs.Tasks.{P}
 use Rattle.machine.specs.declared.Job.{Job}
 use Rattle.ticking.specs.declared.Look.{Look}
 use Rattle.machine.specs.declared.Machine.{Machine}
@@ -35,7 +33,7 @@ module _ (m : Machine) (released finished : ℕ) where
   seen = lookTo m released finished entriesOf
 
   abbrev pub turnsOf : ℕ → Walk
-  turnsOf = walkTo m released finished (walkStart (P (m .table)) seen)
+  turnsOf = walkTo m released finished (walkStart (m .table .platform) seen)
 
   -- the jobs after i turns of the second pass
   abbrev pub jobsTo : ℕ → List Job
@@ -94,7 +92,7 @@ module _ (m : Machine) (released finished : ℕ) where
               answer = record { refused = tickRefusal m released finished; finished = finished; late = late i; started = started i };
             }
         by false w =
-            let first = sym (walk-none m released finished (walkStart (P (m .table)) seen)) in
+            let first = sym (walk-none m released finished (walkStart (m .table .platform) seen)) in
             let before = sym (jobs-none jobs) in
             λ i.
             record {

@@ -66,7 +66,7 @@ module _ (m : Machine) (released finished past : ℕ) (len : length (m .table .r
   all-of : m .table .n ≤ mostTasks → found ≡ lookTo m released finished (m .table .n)
   all-of h = ap (lookTo m released finished) (omega arith)
 
-  to-good : foundGood found past (M (m .table)) ≡ true → goodState m ≡ true
+  to-good : foundGood found past (m .table .platform .cores) ≡ true → goodState m ≡ true
   unfolding goodState
   to-good e =
       let a = both (found .good && eqb past 0) _ e in
@@ -85,7 +85,7 @@ module _ (m : Machine) (released finished past : ℕ) (len : length (m .table .r
       )
       (rw (← is) (a .1))
 
-  from-good : goodState m ≡ true → foundGood found past (M (m .table)) ≡ true
+  from-good : goodState m ≡ true → foundGood found past (m .table .platform .cores) ≡ true
   from-good e =
       let g = state-good m len e in
       let is = all-of (g .table .few) in
@@ -93,10 +93,10 @@ module _ (m : Machine) (released finished past : ℕ) (len : length (m .table .r
       let w : lookTo m released finished (m .table .n) .good ≡ true =
       looks-good m released finished (sizes-accepted t len (g .accepted)) (t .n) (row-accepted t len (g .accepted)) (λ i l. job-test _ _ _ (g .each i l)) (g .apart) (t .n) (omega arith) in
       let l = looked m released finished (t .n) w in
-      let cores : lookTo m released finished (t .n) .running ≤ M t = rw (l .jobs .runs, running-all m) (g .cores) in
+      let cores : lookTo m released finished (t .n) .running .0 ≤ M t = rw (l .jobs .runs, running-all m) (g .cores) in
       rw (is, w, zeros, zeros-of e) (le-leb _ _ cores)
 
-  pub found-good : foundGood found past (M (m .table)) ≡ goodState m
+  pub found-good : foundGood found past (m .table .platform .cores) ≡ goodState m
   found-good = same-truth _ _ to-good from-good
 
   -- what the pass knows of a good state
@@ -107,7 +107,7 @@ module _ (m : Machine) (released finished past : ℕ) (len : length (m .table .r
       let g : lookTo m released finished (m .table .n) .good ≡ true = rw (← is) (good .0) in
       rw is (looked m released finished (m .table .n) g)
 
-  pub found-refusal : foundRefusal found past (M (m .table)) (m .table .n) (bitOr released finished) ≡ tickRefusal m released finished
+  pub found-refusal : foundRefusal found past (m .table .platform .cores) (m .table .n) (bitOr released finished) ≡ tickRefusal m released finished
   unfolding foundRefusal tickRefusal givenRefusal
   found-refusal = rw found-good (by (goodState m) refl)
     where

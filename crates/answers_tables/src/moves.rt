@@ -66,7 +66,7 @@ fn machine_of(b: &[u8]) -> Machine {
 
 // Brings a report to the machine, writes the answer and gives the machine after it.
 fn move_on(m: Machine, released: u32, finished: u32) -> Machine {
-    let ticked = m.tick(released, finished);
+    let ticked = ticking::tick(m, released, finished);
     let answer = ticked.answer;
     let after = ticked.machine;
     let mut b = [0u8; 304];

@@ -13,7 +13,7 @@ pub(crate) fn report(reports: &[u32], i: usize, m: Machine) -> Ticked
     requires { ⌜ 2 * i < length (now reports) ⌝ }
     ensures { λ r. ⌜ r ≡ reported (now (reports .entry)) i m ⌝ }
 {
-    m.tick(word_at(reports, 2 * i), word_at(reports, 2 * i + 1))
+    ticking::tick(m, word_at(reports, 2 * i), word_at(reports, 2 * i + 1))
 }
 
 pub(crate) fn fold_answer(h: u64, a: Answer) -> u64

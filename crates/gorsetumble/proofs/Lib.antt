@@ -1,3 +1,4 @@
+pub mod Contracts
 pub mod Cut
 pub mod Data
 pub mod Demands

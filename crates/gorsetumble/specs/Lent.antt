@@ -1,8 +1,7 @@
 -- A lent row of task records as a table (document 01, "The task table comes as a lent row of task records").
 -- Its count is the whole row's, so that 33 rows earn refusal 1 and are never cut to 32.
-use Prim.Native.Nat.{ℕ}
 use mathlib.Core.List.{List}
-use lib.ListN.{length, set}
+use lib.ListN.{length}
 use Rattle.maths.specs.Tasks.{tabulate, entry}
 use Rattle.table.specs.declared.Platform.{Platform}
 use Rattle.table.specs.declared.Task.{Task}
@@ -12,10 +11,3 @@ use Rattle.table.specs.Tasks.{noTask}
 
 abbrev pub tableOf : Platform → List Task → Table
 tableOf platform rows = record { platform = platform; n = length rows; rows = tabulate mostTasks (λ k. entry rows k noTask) }
-
--- a table that says n rows and has none, and a table with a row put in
-abbrev pub noRows : Platform → ℕ → Table
-noRows platform n = record { platform = platform; n = n; rows = tabulate mostTasks (λ k. noTask) }
-
-abbrev pub withRow : Table → ℕ → Task → Table
-withRow t i row = record { platform = t .platform; n = t .n; rows = set (t .rows) i row }

@@ -7,7 +7,7 @@ ghost use Rattle.forms.specs.Forms.{ticksForm};
 ghost use Rattle.forms.specs.Reader.{read};
 ghost use Rattle.writers.specs.Written.{roomFor, Put, Wrote};
 ghost use Rattle.runs.specs.Ticks.{counted, runText, ran, ticksText};
-ghost use Rattle.runs.specs.Runs.{ticksIn, GoodTicks, CountedTicks, runStart, runOn};
+ghost use Rattle.runs.specs.Code.Runs.{ticksIn, GoodTicks, CountedTicks, runStart, runOn};
 use machine::Machine;
 use readers::Tick;
 use table::Refusal;
@@ -54,7 +54,7 @@ impl Run {
         let before = self.taken;
         let m = self.machine;
         let x = readers::tick_at(s, self.at);
-        let t = m.tick(x.tick.released, x.tick.finished);
+        let t = ticking::tick(m, x.tick.released, x.tick.finished);
         let moved = t.machine;
         let a = t.answer;
         let refused = a.refused;

@@ -5,12 +5,9 @@ use mathlib.Core.Bool.{Bool}
 use Rattle.maths.proofs.Determined.{determined}
 use Rattle.table.specs.declared.Partitions.{Partitions}
 use Rattle.table.specs.Limits.{mostPartitions}
-use Rattle.sets.specs.Sets.{has, partitionsIn, below, without}
+use Rattle.sets.specs.Sets.{partitionsIn, below, without}
 use Rattle.sets.specs.TaskSets.{hasTask, taskBit}
 use Rattle.sets.specs.Choice.{choice}
-
-pub has-determined : (x p : ℕ) (r s : Bool) → r ≡ has x p → s ≡ has x p → r ≡ s
-has-determined x p = determined (has x p)
 
 pub has-task-determined : (x k : ℕ) (r s : Bool) → r ≡ hasTask x k → s ≡ hasTask x k → r ≡ s
 has-task-determined x k = determined (hasTask x k)

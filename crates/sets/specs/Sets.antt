@@ -1,5 +1,5 @@
 -- Numbers as sets, as document 01 has them: a partition p adds 2 ^ p, a task k adds 2 ^ (k - 1).
--- Stated over any number of places w once, for the 32 of a set of tasks and the 64 of a set of partitions.
+-- Stated over any number of places w once, for sets of tasks and sets of partitions.
 -- The union of two sets is `bitOr`, what they share is `bitAnd`, both of lib.Bits.
 use Prim.Native.Nat.{ℕ, zero, suc, _+_, _-_, _/_, _%_, _^_, _≤_}
 use mathlib.Core.Bool.{Bool, cond}

@@ -2,20 +2,12 @@
 ghost use mathlib.Core.Path.{_≡_};
 ghost use Prim.Native.Nat.{min};
 ghost use Rattle.table.specs.Limits.{mostPartitions};
-ghost use Rattle.sets.specs.Sets.{has, partitionsIn, below, without};
+ghost use Rattle.sets.specs.Sets.{partitionsIn, below, without};
 ghost use Rattle.sets.specs.TaskSets.{hasTask, taskBit};
-ghost use Rattle.sets.specs.Choice.{choice, less};
+ghost use Rattle.sets.specs.Choice.{choice};
+ghost use Rattle.sets.specs.Code.Less.{less};
 use table::Partitions;
-
-// Partition p is in the set.
-pub fn has(x: u64, p: u32) -> bool
-    ensures { λ r. ⌜ r ≡ has x p ⌝ }
-{
-    if p < 64 {
-        return (x >> p) % 2 == 1;
-    }
-    false
-}
+use table::Table;
 
 // Task k is in the set.
 pub fn has_task(x: u32, k: usize) -> bool
@@ -24,7 +16,7 @@ pub fn has_task(x: u32, k: usize) -> bool
     if k < 1 {
         return false;
     }
-    if 32 < k {
+    if Table::MOST < k {
         return false;
     }
     (x >> ((k - 1) as u32)) % 2 == 1
@@ -37,7 +29,7 @@ pub fn task_bit(k: usize) -> u32
     if k < 1 {
         return 0;
     }
-    if 32 < k {
+    if Table::MOST < k {
         return 0;
     }
     1u32 << ((k - 1) as u32)

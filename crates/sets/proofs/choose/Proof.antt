@@ -2,7 +2,7 @@ use Prim.Native.Nat.{_≤_, _<_, _-_}
 use mathlib.Core.Path.{_≡_, _∙_, refl}
 use native.Mathlib.Nat.{le-refl, le-trans}
 use native.Mathlib.Omega.{arith}
-use Rattle.sets.specs.Choice.{less}
+use Rattle.sets.specs.Code.Less.{less}
 use Rattle.sets.proofs.Lowest.{leaves, leaves-step, less-le, leaves-four, less-four, leaves-zero, taken, taken-all}
 use borrow.Author.Needs.{needs}
 use Rattle.sets.proofs.choose.Statement.{statement}

@@ -169,7 +169,7 @@ module _ (r : Machine) (w : ℕ → Walk) (late : ℕ → ℕ) where
             record {
               fuel = a .fuel - 1;
               enough = omega (arith, a .enough, ap waiting go, fewer-wait (walked r w i) i queued in-n);
-              same = turn ∙ rw (fit, go, ap (λ (x : Walk). x .goes) e);
+              same = turn ∙ rw (fit, go, ap (λ (x : Walk). x .goes) e ∙ goes);
               calm = λ g.
                   below-suc (λ j. waits (walked r w (suc i)) (suc j) ≡ false) i
                   (λ j k. rw (walked-done r w (suc i) j (omega arith) (omega arith), ← walked-done r w i j k (omega arith)) (a .calm goes j k))

@@ -147,7 +147,7 @@ impl Walk {
 
     // The task starts.
     fn go(self, k: usize, task: Task, j: Job, late: u32) -> Walk
-        requires { ⌜ (self .goes ≡ true) × (1 ≤ self .cores .0) × (task .a .0 ≤ self .partitions .0) ⌝ }
+        requires { ⌜ (1 ≤ self .cores .0) × (task .a .0 ≤ self .partitions .0) ⌝ }
         ensures { λ r. ⌜ r ≡ walkGo k task j late self ⌝ }
     {
         let held = sets::choose(self.idle, task.a);

@@ -157,7 +157,7 @@ abbrev pub walkGo : ℕ → Task → Job → ℕ → Walk → Walk
 walkGo k τ j late w =
     record {
       job = begun (choice (w .idle) (A τ)) j;
-      goes = true;
+      goes = w .goes;
       cores = record { 0 = w .cores .0 - 1 };
       idle = without (w .idle) (choice (w .idle) (A τ));
       partitions = record { 0 = w .partitions .0 - A τ };

@@ -32,8 +32,7 @@ go-requires c κs =
     let e = c .before in
     let s = e .before .before .before in
     let room = both (leb 1 (s .args .self .cores .0)) _ (sym (e .fits-in .ensures) ∙ not-false _ (c .if2 .left)) in
-    let goes = both (s .args .self .goes) _ (sym (e .before .before .tries .ensures) ∙ not-false _ (e .before .if1 .left)) in
-    (goes .0, leb-true 1 (s .args .self .cores .0) (room .0), leb-true (A (s .args .task)) (s .args .self .partitions .0) (room .1))
+    (leb-true 1 (s .args .self .cores .0) (room .0), leb-true (A (s .args .task)) (s .args .self .partitions .0) (room .1))
 
 returns-3 : tie.Need-returns-3
 returns-3 c =

@@ -20,7 +20,7 @@ task-bit-requires c κs = search needs
 returns : tie.Need-returns
 returns c =
     let w = c .before .before .before .before in
-    rw (w .without .ensures, c .before .task-bit .ensures, w .before .before .choose .ensures, w .before .before .before .pre .0)
+    rw (w .without .ensures, c .before .task-bit .ensures, w .before .before .choose .ensures)
 
 pub go-spec : {M : Type 1} → statement M
 go-spec =

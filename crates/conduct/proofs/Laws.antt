@@ -26,8 +26,8 @@ use Rattle.lives.specs.Life.{Allowed}
 use Rattle.admission.specs.Test.{row}
 use Rattle.conduct.specs.Lives.{life}
 use Rattle.conduct.specs.Conduct.{FullFor, Conduct}
-use Rattle.conduct.proofs.Accepted.{accepted-is}
-use Rattle.conduct.proofs.Taken.{taken}
+use Rattle.machine.proofs.Accepted.{accepted-is}
+use Rattle.machine.proofs.Taken.{taken}
 use Rattle.conduct.proofs.Lives.{one-true, shows}
 use Rattle.conduct.proofs.Lemma1.{full-of}
 use Rattle.conduct.proofs.Ready.{readied-good}

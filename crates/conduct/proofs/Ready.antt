@@ -23,8 +23,8 @@ use Rattle.machine.specs.Tick.{readied}
 use Rattle.machine.proofs.Jobs.{for-past, finishedJob, readiedJob, readied-pass, readied-job, readied-table}
 use Rattle.machine.proofs.Queue.{ended-rests}
 use Rattle.machine.proofs.StateParts.{ByStage, is-idle, is-waiting, is-running, GoodJob, GoodState, when-idle}
-use Rattle.conduct.proofs.Accepted.{Accepted}
-use Rattle.conduct.proofs.Taken.{taken}
+use Rattle.machine.proofs.Accepted.{Accepted}
+use Rattle.machine.proofs.Taken.{taken}
 use Rattle.conduct.proofs.Lives.{one}
 
 module _ {p : ℕ} {τ : Task} (row : GoodRow p τ) where

@@ -15,7 +15,7 @@ use Rattle.table.specs.declared.Task.{Task}
 use Rattle.table.specs.declared.Table.{Table}
 use Rattle.table.specs.Limits.{mostTasks}
 use Rattle.table.specs.Tasks.{noTask, tableOf}
-use Rattle.gorsetumble.specs.Lent.{noRows, withRow}
+use Rattle.gorsetumble.specs.Code.Rows.{noRows, withRow}
 
 abbrev with-rows : Platform → List Task → List Task → Table
 with-rows p ys rows = record { platform = p; n = length ys; rows = rows }

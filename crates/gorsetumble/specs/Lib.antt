@@ -1,4 +1,3 @@
-pub mod Lent
 pub mod Demands
 pub mod FromTexts
 pub mod Board

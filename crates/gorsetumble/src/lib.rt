@@ -9,7 +9,7 @@ ghost use Rattle.table.specs.Tasks.{tableOf};
 ghost use Rattle.admission.specs.Answers.{fullAnswer, quickAnswer};
 ghost use Rattle.machine.specs.Fresh.{setUp};
 ghost use Rattle.machine.specs.Tick.{tick};
-ghost use Rattle.gorsetumble.specs.Lent.{noRows, withRow};
+ghost use Rattle.gorsetumble.specs.Code.Rows.{noRows, withRow};
 use admission::FullAnswer;
 use admission::QuickAnswer;
 use machine::Answer;

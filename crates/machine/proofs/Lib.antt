@@ -3,4 +3,6 @@ pub mod Queue
 pub mod StateParts
 pub mod StateTest
 pub mod StateFresh
+pub mod Accepted
+pub mod Taken
 pub mod Determined

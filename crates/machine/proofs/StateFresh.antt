@@ -42,17 +42,9 @@ module _ (t : Table) where
   unfolding fresh
   fresh-n = refl
 
-  pub fresh-platform : fresh t .table .platform ≡ t .platform
-  unfolding fresh
-  fresh-platform = refl
-
   pub fresh-rows-length : length (fresh t .table .rows) ≡ mostTasks
   unfolding fresh
   fresh-rows-length = length-tabulate _ mostTasks
-
-  pub fresh-jobs-length : length (fresh t .jobs) ≡ mostTasks
-  unfolding fresh
-  fresh-jobs-length = length-tabulate _ mostTasks
 
   module _ (i : ℕ) (few : i < mostTasks) where
     pub fresh-task : i < t .n → τ (fresh t .table) (suc i) ≡ τ t (suc i)

@@ -15,7 +15,7 @@ use Rattle.machine.specs.declared.Machine.{Machine}
 use Rattle.machine.specs.declared.Ticked.{Ticked}
 use Rattle.machine.specs.Jobs.{job, idles, waits, runs}
 use Rattle.machine.specs.Conditions.{goodState}
-use Rattle.machine.specs.Steps.{passed, finish, lateSet, release, startWaiting}
+use Rattle.machine.specs.Steps.{passed, finish, lateSet, release, startAll}
 
 -- refusals 9 to 13, of task k
 unfoldable pub tickRules : Machine → ℕ → ℕ → List (Rule ℕ)
@@ -44,7 +44,7 @@ abbrev pub readied : Machine → ℕ → ℕ → Machine
 readied m released finished = release released (finish finished (passed m))
 
 abbrev pub moved : Machine → ℕ → ℕ → Machine
-moved m released finished = startWaiting mostTasks (readied m released finished)
+moved m released finished = startAll (readied m released finished)
 
 abbrev pub startedSet : Machine → Machine → ℕ
 startedSet before now = tasksWhere (λ k. waits before k && runs now k) (now .table .n)

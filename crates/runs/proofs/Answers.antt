@@ -20,7 +20,7 @@ use Rattle.writers.specs.Outputs.{refusedText}
 use Rattle.texts.specs.Given.{taken}
 use Rattle.texts.proofs.Given.{taken-found}
 use Rattle.runs.specs.Ticks.{runText, ran}
-use Rattle.runs.specs.Runs.{rowsOf, CountedTicks}
+use Rattle.runs.specs.Code.Runs.{rowsOf, CountedTicks}
 
 pub ticks-bad : (x : Answer (List (List ℕ))) (k : TicksRead) (t : Table) → k ≡ ticksRead x → (k .refused .number ≡ 0 → ⊥) → ran x t ≡ refusedText (k .refused)
 ticks-bad (found rows) k t e h = absurd (h (ap (λ (q : TicksRead). q .refused .number) e))

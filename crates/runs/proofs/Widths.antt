@@ -17,7 +17,7 @@ use Rattle.readers.specs.Inputs.{tickOf}
 use Rattle.writers.specs.declared.Room.{Room}
 use Rattle.writers.specs.Written.{roomFor}
 use Rattle.runs.specs.Ticks.{tickWith, counted, runRows, runText, listingMost}
-use Rattle.runs.specs.Runs.{ticksIn, GoodTicks, runStart}
+use Rattle.runs.specs.Code.Runs.{ticksIn, GoodTicks, runStart}
 use Rattle.runs.proofs.Runs.{header, toCome, run-split, counted-most}
 use Rattle.runs.proofs.Answered.{big, tick-small}
 

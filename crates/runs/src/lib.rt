@@ -7,7 +7,7 @@ ghost use Rattle.forms.specs.Forms.{ticksForm};
 ghost use Rattle.forms.specs.Reader.{read};
 ghost use Rattle.writers.specs.Written.{roomFor, Put, Wrote};
 ghost use Rattle.runs.specs.Ticks.{counted, runText, ran, listingMost, ticksText};
-ghost use Rattle.runs.specs.Runs.{ticksIn, GoodTicks, CountedTicks, runStart, runOn};
+ghost use Rattle.runs.specs.Code.Runs.{ticksIn, GoodTicks, CountedTicks, runStart, runOn};
 use machine::Machine;
 use readers::Tick;
 use table::Refusal;

@@ -2,7 +2,6 @@ pub mod StateLoops
 pub mod TickTurns
 pub mod TickRules
 pub mod TickLeft
-pub mod TickAllowed
 pub mod TickLook
 pub mod TickJudge
 pub mod TickFive

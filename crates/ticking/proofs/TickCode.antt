@@ -7,9 +7,7 @@ use native.Mathlib.Omega.{arith}
 use lib.ListN.{length}
 use Rattle.maths.proofs.Arrays.{upTo, up-none, tabulate-entry}
 use Rattle.table.specs.declared.Refusal.{Refusal}
-use Rattle.table.specs.declared.Table.{Table}
 use Rattle.table.specs.Limits.{mostTasks}
-use Rattle.table.specs.Tasks.{P}
 use Rattle.machine.specs.declared.Job.{Job}
 use Rattle.ticking.specs.declared.Look.{Look}
 use Rattle.machine.specs.declared.Machine.{Machine}
@@ -20,13 +18,11 @@ use Rattle.machine.specs.Conditions.{goodState}
 use Rattle.machine.specs.Steps.{passed, finish, lateSet}
 use Rattle.ticking.specs.Code.Passes.{walkStart}
 use Rattle.machine.specs.Tick.{tickRefusal, readied, moved, startedSet, accepted, refusedAnswer, tick}
+use Rattle.machine.proofs.Jobs.{machineOf}
 use Rattle.ticking.proofs.TickJudge.{Accepts, accepts}
 use Rattle.ticking.proofs.TickLook.{lookTo, Looked}
 use Rattle.ticking.proofs.TickSteps.{moved-is, started-so, late-so}
 use Rattle.ticking.proofs.TickWalk.{walkTo, walk-none}
-
-abbrev pub machineOf : Table → List Job → Machine
-machineOf t js = record { table = t; jobs = js }
 
 module _ (m : Machine) (released finished : ℕ) where
   -- the entries of tasks 1 to n, the first pass and the second
@@ -37,7 +33,7 @@ module _ (m : Machine) (released finished : ℕ) where
   seen = lookTo m released finished entriesOf
 
   abbrev pub turnsOf : ℕ → Walk
-  turnsOf = walkTo m released finished (walkStart (P (m .table)) seen)
+  turnsOf = walkTo m released finished (walkStart (m .table .platform) seen)
 
   -- the jobs after i turns of the second pass
   abbrev pub jobsTo : ℕ → List Job
@@ -96,7 +92,7 @@ module _ (m : Machine) (released finished : ℕ) where
               answer = record { refused = tickRefusal m released finished; finished = finished; late = late i; started = started i };
             }
         by false w =
-            let first = sym (walk-none m released finished (walkStart (P (m .table)) seen)) in
+            let first = sym (walk-none m released finished (walkStart (m .table .platform) seen)) in
             let before = sym (jobs-none jobs) in
             λ i.
             record {

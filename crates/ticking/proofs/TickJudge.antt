@@ -1,16 +1,14 @@
 -- What the first pass and the pass over the entries past n come to: the refusal of the tick; and what an accepted tick is for each task.
 use Prim.Native.Nat.{ℕ, suc, _+_, _<_, _≤_, min}
 use mathlib.Core.Path.{_≡_, refl, sym, _∙_, ap}
-use mathlib.Core.Bool.{Bool, true, false, cond, not, _&&_, _||_}
-use mathlib.Core.List.{List, [], _∷_}
+use mathlib.Core.Bool.{Bool, true, false, cond, _&&_, _||_}
 use native.Mathlib.Numerals.{add-one}
 use native.Mathlib.Omega.{arith}
-use borrow.Author.Tests.{le-leb, lt-leb, eq-eqb, ne-eqb, eqb-true}
+use borrow.Author.Tests.{le-leb, lt-leb, eq-eqb, eqb-true}
 use lib.Bits.{bitOr}
-use lib.Dec.{leb, eqb, lit<}
+use lib.Dec.{leb, eqb}
 use lib.ListN.{length}
-use Rattle.maths.specs.Rules.{Rule}
-use Rattle.maths.specs.Tasks.{every, lowest}
+use Rattle.maths.specs.Tasks.{every}
 use Rattle.maths.proofs.Tasks.{every-of}
 use Rattle.maths.proofs.Tests.{both, same-truth}
 use Rattle.table.specs.Limits.{mostTasks}
@@ -19,21 +17,22 @@ use Rattle.table.specs.Refused.{refusal}
 use Rattle.table.proofs.Good.{good-sizes, sizes-accepted, row-accepted}
 use Rattle.table.proofs.Good as good
 use Rattle.sets.specs.Families.{allApart}
+use Rattle.sets.specs.TaskSets.{hasTask}
 use Rattle.sets.proofs.Unions.{apart-all}
 use Rattle.ticking.specs.declared.Look.{Look}
 use Rattle.machine.specs.declared.Machine.{Machine}
 use Rattle.ticking.specs.declared.Past.{Past}
-use Rattle.machine.specs.declared.Ticked.{Ticked}
 use Rattle.machine.specs.Jobs.{job, running}
 use Rattle.machine.specs.Conditions.{goodState}
 use Rattle.ticking.specs.Code.Passes.{refuses, pastWith, pastNone, foundGood, firstAbove, foundRefusal}
-use Rattle.machine.specs.Tick.{tickRules, firstGiven, tickRefusal, accepted, tick}
+use Rattle.machine.specs.Tick.{tickRules, firstGiven, tickRefusal, accepted}
 use Rattle.machine.proofs.StateParts.{GoodState}
 use Rattle.machine.proofs.StateTest.{state-good, job-test}
+use Rattle.machine.proofs.Accepted.{accepted-is}
+use Rattle.machine.proofs.Taken.{Taken, taken}
 use Rattle.ticking.proofs.StateLoops.{goodTask, zeroEntry, running-all}
 use Rattle.ticking.proofs.TickTurns.{past-more}
 use Rattle.ticking.proofs.TickRules.{givenRefusal, first-is}
-use Rattle.ticking.proofs.TickAllowed.{AllAllowed, first-none}
 use Rattle.ticking.proofs.TickLook.{lookTo, Looked, looked, looks-good}
 
 -- the pass over the entries past n, up to k
@@ -67,7 +66,7 @@ module _ (m : Machine) (released finished past : ℕ) (len : length (m .table .r
   all-of : m .table .n ≤ mostTasks → found ≡ lookTo m released finished (m .table .n)
   all-of h = ap (lookTo m released finished) (omega arith)
 
-  to-good : foundGood found past (M (m .table)) ≡ true → goodState m ≡ true
+  to-good : foundGood found past (m .table .platform .cores) ≡ true → goodState m ≡ true
   unfolding goodState
   to-good e =
       let a = both (found .good && eqb past 0) _ e in
@@ -86,7 +85,7 @@ module _ (m : Machine) (released finished past : ℕ) (len : length (m .table .r
       )
       (rw (← is) (a .1))
 
-  from-good : goodState m ≡ true → foundGood found past (M (m .table)) ≡ true
+  from-good : goodState m ≡ true → foundGood found past (m .table .platform .cores) ≡ true
   from-good e =
       let g = state-good m len e in
       let is = all-of (g .table .few) in
@@ -94,10 +93,10 @@ module _ (m : Machine) (released finished past : ℕ) (len : length (m .table .r
       let w : lookTo m released finished (m .table .n) .good ≡ true =
       looks-good m released finished (sizes-accepted t len (g .accepted)) (t .n) (row-accepted t len (g .accepted)) (λ i l. job-test _ _ _ (g .each i l)) (g .apart) (t .n) (omega arith) in
       let l = looked m released finished (t .n) w in
-      let cores : lookTo m released finished (t .n) .running ≤ M t = rw (l .jobs .runs, running-all m) (g .cores) in
+      let cores : lookTo m released finished (t .n) .running .0 ≤ M t = rw (l .jobs .runs, running-all m) (g .cores) in
       rw (is, w, zeros, zeros-of e) (le-leb _ _ cores)
 
-  pub found-good : foundGood found past (M (m .table)) ≡ goodState m
+  pub found-good : foundGood found past (m .table .platform .cores) ≡ goodState m
   found-good = same-truth _ _ to-good from-good
 
   -- what the pass knows of a good state
@@ -108,7 +107,7 @@ module _ (m : Machine) (released finished past : ℕ) (len : length (m .table .r
       let g : lookTo m released finished (m .table .n) .good ≡ true = rw (← is) (good .0) in
       rw is (looked m released finished (m .table .n) g)
 
-  pub found-refusal : foundRefusal found past (M (m .table)) (m .table .n) (bitOr released finished) ≡ tickRefusal m released finished
+  pub found-refusal : foundRefusal found past (m .table .platform .cores) (m .table .n) (bitOr released finished) ≡ tickRefusal m released finished
   unfolding foundRefusal tickRefusal givenRefusal
   found-refusal = rw found-good (by (goodState m) refl)
     where
@@ -128,51 +127,12 @@ module _ (m : Machine) (released finished past : ℕ) (len : length (m .table .r
 pub record Accepts (m : Machine) (released finished : ℕ) : Type 0 where
   pub test : goodState m ≡ true
   pub good : GoodState m
-  pub each : AllAllowed m released finished good
+  pub each : (i : ℕ) → i < m .table .n
+      → Taken (τ (m .table) (suc i)) (hasTask released (suc i)) (hasTask finished (suc i)) (job m (suc i))
 
 pub accepts : (m : Machine) (released finished : ℕ) → length (m .table .rows) ≡ mostTasks → accepted m released finished ≡ true
     → Accepts m released finished
-unfolding tickRefusal
-accepts m released finished len e = by (goodState m) refl (eqb-true _ _ e)
-  where
-    by : (b : Bool) → goodState m ≡ b → cond b (firstGiven (tickRules m released finished)) (refuses 14 0) .number ≡ 0 → Accepts m released finished
-    by true w z =
-        let g = state-good m len w in
-        record { test = w; good = g; each = first-none m released finished g z }
-    by false w z = absurd (omega arith)
-
--- the rules of a tick have lower numbers than 14
-lower : (r : Rule ℕ) (rs : List (Rule ℕ)) → r .number < 14 → firstGiven rs .number < 14 → firstGiven (r ∷ rs) .number < 14
-unfolding firstGiven
-lower r rs l h = by (eqb (lowest mostTasks (r .given)) 0)
-  where
-    by : (b : Bool) → cond b (firstGiven rs) (refuses (r .number) (lowest mostTasks (r .given))) .number < 14
-    by true = h
-    by false = l
-
-lower-none : firstGiven [] .number < 14
-unfolding firstGiven
-lower-none = lit< tt
-
--- refusal 14 is that of a state that is not good, and of no other
-module _ (m : Machine) (released finished : ℕ) where
-  answered : tick m released finished .answer .refused ≡ tickRefusal m released finished
-  unfolding tick
-  answered = by (accepted m released finished) _ _ refl refl
-    where
-      by : (b : Bool) (x y : Ticked) → x .answer .refused ≡ tickRefusal m released finished → y .answer .refused ≡ tickRefusal m released finished
-          → cond b x y .answer .refused ≡ tickRefusal m released finished
-      by true x y e f = e
-      by false x y e f = f
-
-  other : firstGiven (tickRules m released finished) .number < 14
-  unfolding tickRules
-  other = lower _ _ (lit< tt) (lower _ _ (lit< tt) (lower _ _ (lit< tt) (lower _ _ (lit< tt) (lower _ [] (lit< tt) lower-none))))
-
-  pub good-answered : not (eqb (tick m released finished .answer .refused .number) 14) ≡ goodState m
-  unfolding tickRefusal
-  good-answered = rw answered (by (goodState m))
-    where
-      by : (b : Bool) → not (eqb (cond b (firstGiven (tickRules m released finished)) (refuses 14 0) .number) 14) ≡ b
-      by true = rw (ne-eqb (firstGiven (tickRules m released finished) .number) 14 (λ e. absurd (omega (arith, other))))
-      by false = refl
+accepts m released finished len e =
+    let a = accepted-is m released finished e in
+    let g = state-good m len (a .before .good) in
+    record { test = a .before .good; good = g; each = λ i l. taken m released finished (g .table .few) a (suc i) (omega arith) l }

@@ -7,6 +7,7 @@ use borrow.Author.Tests.{eqb-true, not-true}
 use lib.Bits.{bitOr, or-zero-r}
 use lib.Dec.{eqb}
 use Rattle.maths.proofs.Tests.{both}
+use Rattle.table.specs.declared.Cores.{Cores}
 use Rattle.table.specs.declared.Task.{Task}
 use Rattle.table.specs.Refused.{rowRefusal}
 use Rattle.sets.specs.TaskSets.{hasTask}
@@ -17,7 +18,7 @@ use Rattle.ticking.specs.declared.Walk.{Walk}
 use Rattle.machine.specs.Jobs.{Idle, isIdle, isRunning}
 use Rattle.machine.specs.Conditions.{goodJob}
 use Rattle.machine.specs.Steps.{older}
-use Rattle.ticking.specs.Code.Passes.{isLeft, givenNumber, firstOf, admits, lookMore, walkBy, walkWith}
+use Rattle.ticking.specs.Code.Passes.{isLeft, givenNumber, firstOf, admits, coresAnd, lookMore, walkBy, walkWith}
 use Rattle.machine.proofs.StateParts.{idle-is, when-idle, when-not-running}
 use Rattle.machine.proofs.StateTest.{job-good}
 use Rattle.ticking.proofs.TickRules.{neither}
@@ -28,6 +29,9 @@ holds-none p τ j l e n =
     let all = both (l .good && eqb (rowRefusal p τ) 0 && goodJob p τ j) _ e in
     let good = both (l .good && eqb (rowRefusal p τ) 0) _ (all .0) in
     when-not-running (job-good p τ j (good .1)) n .none
+
+idle-more : (x : Cores) → x ≡ record { 0 = x .0 + 0 }
+idle-more x = let e : x .0 ≡ x .0 + 0 = omega arith in λ i. record { 0 = e i }
 
 pub look-still : (k : ℕ) (τ : Task) (j : Job) (r f : Bool) (l : Look) → isRunning (j .stage) ≡ false → j .held ≡ 0
     → record {
@@ -40,21 +44,20 @@ pub look-still : (k : ℕ) (τ : Task) (j : Job) (r f : Bool) (l : Look) → isR
     }
     ≡ lookMore k τ j r f l
 look-still k τ j r f l still none =
-    let runs : l .running ≡ l .running + cond (isRunning (j .stage)) 1 0 = rw still (omega arith) in
+    let none-more : (x : Cores) → x ≡ coresAnd x j = λ x. rw still (idle-more x) in
     let held : l .held ≡ bitOr (l .held) (j .held) = rw none (sym (or-zero-r (l .held))) in
-    let stays : l .stays ≡ l .stays + cond (isRunning (j .stage)) 1 0 = rw still (omega arith) in
     let busy : l .busy ≡ bitOr (l .busy) (j .held) = rw none (sym (or-zero-r (l .busy))) in
     λ i.
     record {
       good = true;
       refused = firstOf (l .refused) (givenNumber τ j r f) k;
-      running = runs i;
+      running = none-more (l .running) i;
       held = held i;
-      stays = by f (l .stays) _ stays i;
+      stays = by f (l .stays) _ (none-more (l .stays)) i;
       busy = by f (l .busy) _ busy i;
     }
   where
-    by : (b : Bool) (x y : ℕ) → x ≡ y → x ≡ cond b x y
+    by : {X : Type 0} (b : Bool) (x y : X) → x ≡ y → x ≡ cond b x y
     by true x y e = refl
     by false x y e = e
 
@@ -72,19 +75,17 @@ module _ (τ : Task) (j : Job) (released finished k : ℕ) (left : isLeft j (bit
       let row = both (l .good && eqb (rowRefusal p τ) 0) _ (all .0) in
       let g = when-idle (job-good p τ j (row .1)) (both (isIdle (j .stage)) _ left .0) in
       let none : j .held ≡ 0 = omega arith in
-      let runs : l .running ≡ l .running + 0 = omega arith in
-      let stays : l .stays ≡ l .stays + 0 = omega arith in
       rw (unnamed .0, unnamed .1, idle, none)
       (λ i.
       record {
         good = both (l .good) _ (row .0) .0 i;
         refused = l .refused;
-        running = runs i;
+        running = idle-more (l .running) i;
         held = sym (or-zero-r (l .held)) i;
-        stays = stays i;
+        stays = idle-more (l .stays) i;
         busy = sym (or-zero-r (l .busy)) i;
       })
 
-  pub walk-left : (cores : ℕ) (w : Walk) → walkBy (w .goes) (older τ j) (w .late) w ≡ walkWith k cores τ j released finished w
+  pub walk-left : (w : Walk) → walkBy (w .goes) (older τ j) (w .late) w ≡ walkWith k τ j released finished w
   unfolding walkWith
-  walk-left cores w = rw (unnamed .0, unnamed .1, idle, and-false (w .goes), or-zero-r (w .late))
+  walk-left w = rw (unnamed .0, unnamed .1, idle, and-false (w .goes), or-zero-r (w .late))

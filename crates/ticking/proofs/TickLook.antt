@@ -52,8 +52,8 @@ module _ (m : Machine) (released finished : ℕ) where
   pub record Looked (i : ℕ) (l : Look) : Type 0 where
     pub sizes : sizesRefusal (m .table) ≡ 0
     pub rows : (j : ℕ) → j < i → rowRefusal (P (m .table)) (τ (m .table) (suc j)) ≡ 0
-    pub jobs : Passed m i (l .held) (l .running)
-    pub running : l .stays ≡ Σ i stays
+    pub jobs : Passed m i (l .held) (l .running .0)
+    pub running : l .stays .0 ≡ Σ i stays
     pub holds : l .busy ≡ unionOf i (λ j. kept (suc j))
     pub refused : l .refused ≡ givenRefusal 0 (givenTo m released finished i)
 
@@ -87,7 +87,7 @@ module _ (m : Machine) (released finished : ℕ) where
           sizes = k .sizes;
           rows = rw (← add-one i) (below-more _ i (k .rows) (f .row));
           jobs = rw (← add-one i) (passed-more m i _ _ _ (k .jobs) (f .good) (f .apart) refl);
-          running = add-kept (hasTask finished (suc i)) _ _ ∙ rw (k .running) (sym (Σ-suc i stays));
+          running = add-kept (hasTask finished (suc i)) (l .stays) (job m (suc i)) ∙ rw (k .running) (sym (Σ-suc i stays));
           holds = or-kept (hasTask finished (suc i)) _ _ ∙ rw (k .holds) (sym (union-more (λ j. kept (suc j)) i));
           refused = rw (k .refused) (given-more m released finished i);
         }
@@ -136,7 +136,7 @@ module _ (m : Machine) (released finished : ℕ) where
   pub look-partitions : (i : ℕ) → lookTo i .good ≡ true → P (m .table) ≤ mostPartitions
   look-partitions i e = good-sizes (m .table) (looked i e .sizes) .partitions
 
-  pub look-small : (i : ℕ) → (lookTo i .running ≤ i) × (lookTo i .stays ≤ i)
+  pub look-small : (i : ℕ) → (lookTo i .running .0 ≤ i) × (lookTo i .stays .0 ≤ i)
   unfolding lookTo lookWith
   look-small zero = (zero-le, zero-le)
   look-small (suc i) = by (asked i (lookTo i)) (hasTask finished (suc i)) (one-le (runs m (suc i))) (look-small i)
@@ -144,8 +144,8 @@ module _ (m : Machine) (released finished : ℕ) where
       next : Bool → Bool → Look
       next b f = cond b (lookMore (suc i) (τ (m .table) (suc i)) (job m (suc i)) (hasTask released (suc i)) f (lookTo i)) (lookBad (lookTo i))
 
-      by : (b f : Bool) → cond (runs m (suc i)) 1 0 ≤ 1 → (lookTo i .running ≤ i) × (lookTo i .stays ≤ i)
-          → (next b f .running ≤ suc i) × (next b f .stays ≤ suc i)
+      by : (b f : Bool) → cond (runs m (suc i)) 1 0 ≤ 1 → (lookTo i .running .0 ≤ i) × (lookTo i .stays .0 ≤ i)
+          → (next b f .running .0 ≤ suc i) × (next b f .stays .0 ≤ suc i)
       by true true o r = (omega arith, omega arith)
       by true false o r = (omega arith, omega arith)
       by false f o r = (omega arith, omega arith)

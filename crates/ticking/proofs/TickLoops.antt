@@ -12,7 +12,7 @@ use lib.ListN.{length, getD, set}
 use Rattle.maths.proofs.Arrays.{up-more, up-past}
 use Rattle.table.specs.declared.Refusal.{Refusal}
 use Rattle.table.specs.Limits.{mostTasks, mostPartitions, longestPeriod}
-use Rattle.table.specs.Tasks.{M, P, τ}
+use Rattle.table.specs.Tasks.{P, τ}
 use Rattle.machine.specs.declared.Job.{Job}
 use Rattle.ticking.specs.declared.Look.{Look}
 use Rattle.machine.specs.declared.Machine.{Machine}
@@ -26,7 +26,7 @@ use Rattle.machine.proofs.StateTest.{state-good}
 use Rattle.ticking.proofs.TickTurns.{good-ran, good-age}
 use Rattle.ticking.proofs.TickLook.{lookTo, look-none, look-more, look-partitions, look-small, Looked}
 use Rattle.ticking.proofs.TickJudge.{zeroTo, zero-none, zero-more, found-good, found-looked, found-refusal}
-use Rattle.ticking.proofs.TickWalk.{walk-none, walk-more, walk-small}
+use Rattle.ticking.proofs.TickWalk.{walk-none, walk-more}
 use Rattle.ticking.proofs.TickCode.{entriesOf, seen, turnsOf, jobsTo, jobs-none, coded-is, moves, few-turns}
 
 module _ (m : Machine) (released finished : ℕ) where
@@ -40,7 +40,7 @@ module _ (m : Machine) (released finished : ℕ) where
   judging-none n look e s = record { all = e; low = zero-le; found = s ∙ look-none m released finished }
 
   module _ (n k : ℕ) (look : Look) (j : Judging n k look) where
-    pub judging-turn : k < n → (look .good ≡ true → P (m .table) ≤ mostPartitions) × (look .running < mostTasks) × (look .stays < mostTasks)
+    pub judging-turn : k < n → (look .good ≡ true → P (m .table) ≤ mostPartitions) × (look .running .0 < mostTasks) × (look .stays .0 < mostTasks)
     judging-turn l =
         let small = look-small m released finished k in
         rw (j .found) (look-partitions m released finished k, omega arith, omega arith)
@@ -84,11 +84,11 @@ module _ (m : Machine) (released finished : ℕ) where
         let at-end : k ≡ mostTasks = omega arith in
         marks ∙ (rw at-end at (e .zeros))
 
-    pub ending-few : foundGood look past (M (m .table)) ≡ true → m .table .n ≤ mostTasks
+    pub ending-few : foundGood look past (m .table .platform .cores) ≡ true → m .table .n ≤ mostTasks
     ending-few w = state-good m rows (sym (found-good m released finished past rows zeros) ∙ (rw (e .found) at w)) .table .few
 
-    pub moving-none : length (m .jobs) ≡ mostTasks → (refused : Refusal) (moved : ℕ) (walk : Walk) → refused ≡ foundRefusal look past (M (m .table)) (m .table .n) (bitOr released finished)
-        → moved ≡ cond (eqb (refused .number) 0) n 0 → walk ≡ walkStart (P (m .table)) look → Moving refused moved (m .jobs) walk 0
+    pub moving-none : length (m .jobs) ≡ mostTasks → (refused : Refusal) (moved : ℕ) (walk : Walk) → refused ≡ foundRefusal look past (m .table .platform .cores) (m .table .n) (bitOr released finished)
+        → moved ≡ cond (eqb (refused .number) 0) n 0 → walk ≡ walkStart (m .table .platform) look → Moving refused moved (m .jobs) walk 0
     moving-none jobs refused moved walk r t w =
         let is : refused ≡ tickRefusal m released finished = r ∙ rw (e .found) (found-refusal m released finished past rows zeros) in
         let turns : moved ≡ cond (accepted m released finished) (entriesOf m released finished) 0 = t ∙ rw (is, e .all) in
@@ -109,14 +109,12 @@ module _ (m : Machine) (released finished : ℕ) where
       here : getD jobs i noJob ≡ job m (suc i)
       here = rw (v .stored) (up-past mostTasks (λ k. turnsOf m released finished k .job) (job m) i i noJob (omega arith) (omega arith))
 
-      pub moving-turn : (walk .running < mostTasks + mostTasks) × (getD jobs i noJob .ran ≤ longestPeriod) × (getD jobs i noJob .age ≤ longestPeriod)
+      pub moving-turn : (getD jobs i noJob .ran ≤ longestPeriod) × (getD jobs i noJob .age ≤ longestPeriod)
       moving-turn =
           let a = moves m released finished (v .rows) i (rw (v .turns) at l) in
-          let small = walk-small m released finished (walkStart (P (m .table)) (seen m released finished)) i in
-          let stays = look-small m released finished (entriesOf m released finished) .1 in
-          rw (here, v .walked) (omega arith, good-ran (a .0 .good) i (a .1), good-age (a .0 .good) i (a .1))
+          rw here (good-ran (a .0 .good) i (a .1), good-age (a .0 .good) i (a .1))
 
-      pub moving-more : (next : Walk) → next ≡ walkWith (i + 1) (M (m .table)) (τ (m .table) (suc i)) (getD jobs i noJob) released finished walk
+      pub moving-more : (next : Walk) → next ≡ walkWith (i + 1) (τ (m .table) (suc i)) (getD jobs i noJob) released finished walk
           → Moving refused moved (set jobs i (next .job)) next (i + 1)
       moving-more next e =
           let is : next ≡ turnsOf m released finished (i + 1) = e ∙ rw (here, v .walked) (walk-more m released finished _ i) in

@@ -3,7 +3,6 @@ use Prim.Native.Nat.{ℕ, suc, _<_, _≤_}
 use mathlib.Core.Path.{_≡_, refl, sym}
 use mathlib.Core.Bool.{Bool, true, false, cond, true≢false}
 use native.Mathlib.Omega.{arith}
-use borrow.Author.Tests.{not-false}
 use lib.ListN.{length}
 use Rattle.maths.specs.Sums.{Σ}
 use Rattle.maths.proofs.Sums.{Σ-ext}
@@ -20,8 +19,8 @@ use Rattle.machine.specs.Jobs.{isIdle, isWaiting, isRunning, job, waits, runs, 
 use Rattle.machine.specs.Code.Readied.{readiedJob}
 use Rattle.machine.specs.Tick.{readied}
 use Rattle.machine.proofs.Jobs.{readied-table, readied-job, readied-pass, for-past, for-length}
+use Rattle.machine.proofs.Taken.{Taken}
 use Rattle.machine.proofs.StateParts.{idle-not-runs, GoodJob, when-idle, when-waiting}
-use Rattle.ticking.proofs.TickAllowed.{Allowed}
 use Rattle.ticking.proofs.TickJudge.{Accepts}
 use Rattle.ticking.proofs.TickLook.{kept, stays}
 
@@ -32,17 +31,17 @@ ready-held task j true false = refl
 ready-held task j false true = refl
 ready-held task j false false = refl
 
-ready-runs : (task : Task) (j : Job) (r f : Bool) → Allowed task j r f
+ready-runs : (task : Task) (j : Job) (r f : Bool) → Taken task r f j
     → cond {A = ℕ} (isRunning (readiedJob task r f j .stage)) 1 0 ≡ cond f 0 (cond (isRunning (j .stage)) 1 0)
 ready-runs task j true true a = refl
-ready-runs task j true false a = rw (idle-not-runs (j .stage) (not-false _ (a .thirteen)))
+ready-runs task j true false a = rw (idle-not-runs (j .stage) (a .free refl))
 ready-runs task j false true a = refl
 ready-runs task j false false a = refl
 
-ready-free : (p : ℕ) (task : Task) (j : Job) (r f : Bool) → GoodJob p task j → Allowed task j r f
+ready-free : (p : ℕ) (task : Task) (j : Job) (r f : Bool) → GoodJob p task j → Taken task r f j
     → isWaiting (readiedJob task r f j .stage) ≡ true → readiedJob task r f j .held ≡ 0
 ready-free p task j true true g a e = refl
-ready-free p task j true false g a e = when-idle g (not-false _ (a .thirteen)) .rests .none
+ready-free p task j true false g a e = when-idle g (a .free refl) .rests .none
 ready-free p task j false true g a e = absurd (true≢false (sym e))
 ready-free p task j false false g a e = when-waiting g e .none
 

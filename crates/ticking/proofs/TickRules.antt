@@ -1,9 +1,10 @@
 -- Refusals 9 to 13: from the rules, which go over 32 tasks and the states after steps 1 and 2, to what the code asks of tasks 1 to n.
-use Prim.Native.Nat.{ℕ, zero, suc, _+_, _<_, _≤_}
+use Prim.Native.Nat.{ℕ, zero, suc, _+_, _^_, _<_, _≤_}
 use mathlib.Core.Path.{_≡_, refl, sym, _∙_, ap}
-use mathlib.Core.Bool.{Bool, true, false, cond, not, _&&_, _||_, true≢false}
+use mathlib.Core.Bool.{Bool, true, false, cond, not, _&&_, _||_, true≢false, and-false}
 use native.Mathlib.Numerals.{add-one}
 use native.Mathlib.Omega.{arith}
+use native.Mathlib.Decide.{decLt}
 use borrow.Author.Tests.{lt-ltb, le-ltb, ne-eqb, eqb-true}
 use lib.Bits.{bitOr}
 use lib.Dec.{ltb, eqb}
@@ -13,7 +14,7 @@ use Rattle.table.specs.declared.Refusal.{Refusal}
 use Rattle.table.specs.Limits.{mostTasks}
 use Rattle.table.specs.Tasks.{τ, T, C}
 use Rattle.sets.specs.TaskSets.{hasTask}
-use Rattle.sets.proofs.Wheres.{task-or}
+use Rattle.sets.proofs.Wheres.{task-or, task-above}
 use Rattle.machine.specs.declared.Machine.{Machine}
 use Rattle.machine.specs.Jobs.{job, idles, runs}
 use Rattle.machine.specs.Steps.{passed, finish}
@@ -39,6 +40,14 @@ module _ (x n : ℕ) where
 
     pub above-past : hasTask x (k + 1) ≡ false → lowest (k + 1) above ≡ 0
     above-past e = lowest-past above k none (rw (lt-ltb n (suc k) (omega arith)) (rw add-one at e))
+
+-- a set below 2 ^ n names no task above n
+pub none-above : (n x : ℕ) → x < 2 ^ n → lowest mostTasks (above x n) ≡ 0
+none-above n x h = lowest-empty (above x n) mostTasks (λ i l. at i (decLt n (suc i)))
+  where
+    at : (i : ℕ) → Dec (n < suc i) → above x n (suc i) ≡ false
+    at i (yes l) = rw (task-above n x (suc i) h l) (and-false (ltb n (suc i)))
+    at i (no l) = rw (le-ltb n (suc i) (omega arith))
 
 -- the lowest task of which each of refusals 10 to 13 is given, or 0
 pub record Given : Type 0 where

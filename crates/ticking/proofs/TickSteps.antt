@@ -1,5 +1,5 @@
 -- The second pass of an accepted tick comes to its steps: the machine that it leaves, and the sets late and started.
-use Prim.Native.Nat.{ℕ, suc, _<_, min}
+use Prim.Native.Nat.{ℕ, suc, _-_, _<_, min}
 use mathlib.Core.Path.{_≡_, refl, sym, _∙_, ap}
 use mathlib.Core.Bool.{cond}
 use native.Mathlib.Omega.{arith}
@@ -8,14 +8,14 @@ use borrow.Author.Tests.{le-leb}
 use lib.Dec.{leb}
 use Rattle.maths.proofs.Arrays.{upTo, tabulate-ext}
 use Rattle.table.specs.Limits.{mostTasks}
-use Rattle.table.specs.Tasks.{P}
-use Rattle.sets.specs.Sets.{below, without}
+use Rattle.table.specs.Tasks.{M, P}
+use Rattle.sets.specs.Sets.{partitionsIn, below, without}
 use Rattle.sets.proofs.Wheres.{where-same}
 use Rattle.ticking.specs.declared.Look.{Look}
 use Rattle.machine.specs.declared.Machine.{Machine}
 use Rattle.ticking.specs.declared.Walk.{Walk}
-use Rattle.machine.specs.Jobs.{job, running, idlePartitions}
-use Rattle.machine.specs.Steps.{passed, finish, lateSet, startWaiting}
+use Rattle.machine.specs.Jobs.{job, running, idleSet, idleCores, idlePartitions}
+use Rattle.machine.specs.Steps.{passed, finish, lateSet, startAll}
 use Rattle.ticking.specs.Code.Passes.{walkStart}
 use Rattle.machine.specs.Tick.{readied, moved, startedSet}
 use Rattle.machine.proofs.Jobs.{finished-table, finished-job}
@@ -28,7 +28,7 @@ use Rattle.ticking.proofs.TickWalk.{walkTo, walk-none, walk-turn, walk-
 
 module _ (m : Machine) (released finished : ℕ) (a : Accepts m released finished) (l : Look) (seen : Looked m released finished (m .table .n) l) where
   abbrev first : Walk
-  first = walkStart (P (m .table)) l
+  first = walkStart (m .table .platform) l
 
   abbrev turns : ℕ → Walk
   turns = walkTo m released finished first
@@ -36,11 +36,16 @@ module _ (m : Machine) (released finished : ℕ) (a : Accepts m released finishe
   starts-so : turns 0 ≡ first
   starts-so = sym (walk-none m released finished first)
 
-  idle-so : first .idle ≡ idlePartitions (ready m released finished)
+  idle-so : first .idle ≡ idleSet (ready m released finished)
   idle-so =
       let p : min (P (m .table)) 64 ≡ P (m .table) = omega (arith, a .good .table .partitions) in
       ap (λ (z : ℕ). without (below z) (l .busy)) p
       ∙ ap (λ (z : ℕ). without (below (P (m .table))) z) (seen .holds ∙ ready-busy m released finished a)
+
+  cores-so : first .cores ≡ idleCores (ready m released finished)
+  cores-so =
+      let stay : l .stays .0 ≡ running (ready m released finished) = seen .running ∙ ready-running m released finished a in
+      λ i. record { 0 = M (m .table) - stay i }
 
   is-pass : Pass (ready m released finished) turns (lateAfter m released finished first)
   is-pass =
@@ -48,9 +53,9 @@ module _ (m : Machine) (released finished : ℕ) (a : Accepts m released finishe
         entries = ready-length m released finished;
         few = a .good .table .few;
         goes = ap (λ (x : Walk). x .goes) starts-so;
-        count = ap (λ (x : Walk). x .running) starts-so ∙ (seen .running ∙ ready-running m released finished a);
+        cores = ap (λ (x : Walk). x .cores) starts-so ∙ cores-so;
         idle = ap (λ (x : Walk). x .idle) starts-so ∙ idle-so;
-        room = rw starts-so;
+        partitions = ap (λ (x : Walk). x .partitions) starts-so ∙ ap partitionsIn idle-so;
         none = ap (λ (x : Walk). x .started) starts-so;
         free = ready-waits m released finished a;
         turn = λ i h. walk-turn m released finished first i ∙ rw (ready-job m released finished a i h);
@@ -73,7 +78,7 @@ module _ (m : Machine) (released finished : ℕ) (a : Accepts m released finishe
           at i h (no k) = rw (ready-past m released finished i (omega arith) h)
 
   moved-so : moved m released finished ≡ walked (ready m released finished) turns (m .table .n)
-  moved-so = ap (startWaiting mostTasks) (ready-is m released finished) ∙ five (ready m released finished) turns _ is-pass
+  moved-so = ap startAll (ready-is m released finished) ∙ five (ready m released finished) turns _ is-pass
 
   pub moved-is : moved m released finished ≡ left
   moved-is = moved-so ∙ walked-is

@@ -10,6 +10,7 @@ use lib.Bits.{bitOr, or-zero-l, or-zero-r, or-add-and, and-le-r}
 use lib.Dec.{ltb, eqb}
 use lib.Pow.{pow-pos}
 use Rattle.maths.proofs.Tests.{both}
+use Rattle.table.specs.declared.Cores.{Cores}
 use Rattle.table.specs.declared.Task.{Task}
 use Rattle.table.specs.Good.{GoodRow}
 use Rattle.table.specs.Limits.{longestPeriod}
@@ -23,7 +24,7 @@ use Rattle.machine.specs.declared.Machine.{Machine}
 use Rattle.ticking.specs.declared.Past.{Past}
 use Rattle.machine.specs.Jobs.{isIdle, isWaiting, isRunning, job}
 use Rattle.machine.specs.Conditions.{isNoTask, isNoJob, hasNothing, idlesWell, runsWell, goodStage, goodJob}
-use Rattle.ticking.specs.Code.Passes.{orTask, orJob, pastWith, pastNone, admits}
+use Rattle.ticking.specs.Code.Passes.{orTask, orJob, pastWith, pastNone, admits, coresAnd}
 use Rattle.machine.proofs.StateParts.{waiting-is, running-is, ByStage, is-idle, is-waiting, is-running, GoodState}
 use Rattle.machine.proofs.StateTest.{job-good}
 
@@ -36,9 +37,9 @@ ran-on true x = refl
 ran-on false x = omega arith
 
 -- what is put to a count or a set where the job is not finished
-pub add-kept : (f : Bool) (x y : ℕ) → cond f x (x + y) ≡ x + cond f 0 y
-add-kept true x y = omega arith
-add-kept false x y = refl
+pub add-kept : (f : Bool) (x : Cores) (j : Job) → cond f x (coresAnd x j) .0 ≡ x .0 + cond f 0 (cond (isRunning (j .stage)) 1 0)
+add-kept true x j = omega arith
+add-kept false x j = refl
 
 pub or-kept : (f : Bool) (x y : ℕ) → cond f x (bitOr x y) ≡ bitOr x (cond f 0 y)
 or-kept true x y = sym (or-zero-r x)

@@ -1,4 +1,4 @@
--- The second pass over the tasks, turn by turn: what each turn is, what it requires, and the late set.
+-- The second pass over the tasks, turn by turn: what each turn is, and the late set.
 use Prim.Native.Nat.{ℕ, zero, suc, _+_, _≤_}
 use mathlib.Core.Path.{_≡_, refl, sym, _∙_, ap}
 use mathlib.Core.Bool.{Bool, true, false, cond}
@@ -7,7 +7,7 @@ use native.Mathlib.Omega.{arith}
 use lib.Bits.{bitOr, or-zero-r}
 use Rattle.table.specs.declared.Task.{Task}
 use Rattle.table.specs.Limits.{mostTasks}
-use Rattle.table.specs.Tasks.{M, τ}
+use Rattle.table.specs.Tasks.{τ}
 use Rattle.sets.specs.TaskSets.{hasTask, taskBit, tasksWhere}
 use Rattle.sets.proofs.Wheres.{where-none, tasks-or, tasks-out}
 use Rattle.machine.specs.declared.Job.{Job}
@@ -17,34 +17,26 @@ use Rattle.machine.specs.Jobs.{job}
 use Rattle.machine.specs.Code.Readied.{finishedJob, readiedJob}
 use Rattle.ticking.specs.Code.Passes.{isLate, tries, hasRoom, walkGo, walkBy, walkBegin, walkWith}
 
--- whatever becomes of a task, the late set is the one handed on, and at most one job more runs
-begin-late : (k m : ℕ) (task : Task) (j : Job) (late : ℕ) (w : Walk) → walkBegin k m task j late w .late ≡ late
-begin-late k m task j late w = by (tries j w) (hasRoom m task w)
+-- whatever becomes of a task, the late set is the one handed on
+begin-late : (k : ℕ) (task : Task) (j : Job) (late : ℕ) (w : Walk) → walkBegin k task j late w .late ≡ late
+begin-late k task j late w = by (tries j w) (hasRoom task w)
   where
     by : (a b : Bool) → cond a (cond b (walkGo k task j late w) (walkBy false j late w)) (walkBy (w .goes) j late w) .late ≡ late
     by true true = refl
     by true false = refl
     by false b = refl
 
-begin-small : (k m : ℕ) (task : Task) (j : Job) (late : ℕ) (w : Walk) → walkBegin k m task j late w .running ≤ w .running + 1
-begin-small k m task j late w = by (tries j w) (hasRoom m task w)
-  where
-    by : (a b : Bool) → cond a (cond b (walkGo k task j late w) (walkBy false j late w)) (walkBy (w .goes) j late w) .running ≤ w .running + 1
-    by true true = omega arith
-    by true false = omega arith
-    by false b = omega arith
-
 module _ (m : Machine) (released finished : ℕ) (first : Walk) where
   -- after i turns
   unfoldable pub walkTo : ℕ → Walk
   walkTo zero = first
-  walkTo (suc i) = walkWith (suc i) (M (m .table)) (τ (m .table) (suc i)) (job m (suc i)) released finished (walkTo i)
+  walkTo (suc i) = walkWith (suc i) (τ (m .table) (suc i)) (job m (suc i)) released finished (walkTo i)
 
   pub walk-none : first ≡ walkTo 0
   unfolding walkTo
   walk-none = refl
 
-  pub walk-more : (i : ℕ) → walkWith (i + 1) (M (m .table)) (τ (m .table) (suc i)) (job m (suc i)) released finished (walkTo i) ≡ walkTo (i + 1)
+  pub walk-more : (i : ℕ) → walkWith (i + 1) (τ (m .table) (suc i)) (job m (suc i)) released finished (walkTo i) ≡ walkTo (i + 1)
   unfolding walkTo
   walk-more i = rw add-one
 
@@ -59,21 +51,15 @@ module _ (m : Machine) (released finished : ℕ) (first : Walk) where
   abbrev pub readyAt : ℕ → Job
   readyAt i = readiedJob (τ (m .table) (suc i)) (hasTask released (suc i)) (hasTask finished (suc i)) (job m (suc i))
 
-  pub walk-turn : (i : ℕ) → walkTo (suc i) ≡ walkBegin (suc i) (M (m .table)) (τ (m .table) (suc i)) (readyAt i) (lateAfter i) (walkTo i)
+  pub walk-turn : (i : ℕ) → walkTo (suc i) ≡ walkBegin (suc i) (τ (m .table) (suc i)) (readyAt i) (lateAfter i) (walkTo i)
   unfolding walkTo walkWith
   walk-turn i = refl
-
-  pub walk-small : (i : ℕ) → walkTo i .running ≤ first .running + i
-  walk-small zero = rw (← walk-none) (omega arith)
-  walk-small (suc i) =
-      let more = begin-small (suc i) (M (m .table)) (τ (m .table) (suc i)) (readyAt i) (lateAfter i) (walkTo i) in
-      rw (walk-turn i) (omega (arith, walk-small i, more))
 
   pub walk-late : first .late ≡ 0 → (i : ℕ) → i ≤ mostTasks → walkTo i .late ≡ tasksWhere isLateTask i
   walk-late none zero l = rw (← walk-none) (none ∙ sym (where-none (λ j. isLateTask (suc j))))
   walk-late none (suc i) l =
       ap (λ (x : Walk). x .late) (walk-turn i)
-      ∙ (begin-late (suc i) (M (m .table)) (τ (m .table) (suc i)) (readyAt i) (lateAfter i) (walkTo i)
+      ∙ (begin-late (suc i) (τ (m .table) (suc i)) (readyAt i) (lateAfter i) (walkTo i)
       ∙ rw (walk-late none i (omega arith)) (by (isLateTask (suc i)) refl))
     where
       by : (b : Bool) → isLateTask (suc i) ≡ b → bitOr (tasksWhere isLateTask i) (cond b (taskBit (suc i)) 0) ≡ tasksWhere isLateTask (suc i)

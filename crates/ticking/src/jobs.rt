@@ -50,10 +50,11 @@ fn runs_well(j: Job, p: Partitions, task: Task) -> bool
     if j.age < j.ran {
         return false;
     }
-    if sets::size(j.held) != task.a.0 {
+    let held = sets::size(j.held);
+    if held.0 != task.a.0 {
         return false;
     }
-    sets::without(j.held, sets::below(p.0)) == 0
+    sets::without(j.held, sets::below(p)) == 0
 }
 
 // What is asked of the job of a task, on a cache of p partitions.

@@ -30,9 +30,9 @@ impl Look {
         Look {
             good: number == 0,
             refused: refusal(0, 0),
-            running: 0,
+            running: Cores(0),
             held: 0,
-            stays: 0,
+            stays: Cores(0),
             busy: 0,
         }
     }
@@ -64,7 +64,7 @@ impl Look {
 
     // A good task more.
     fn more(self, k: usize, task: Task, j: Job, released: bool, finished: bool) -> Look
-        requires { ⌜ (self .running < mostTasks) × (self .stays < mostTasks) × (j .ran ≤ longestPeriod) × (isRunning (j .stage) ≡ false → j .held ≡ 0) ⌝ }
+        requires { ⌜ (self .running .0 < mostTasks) × (self .stays .0 < mostTasks) × (j .ran ≤ longestPeriod) × (isRunning (j .stage) ≡ false → j .held ≡ 0) ⌝ }
         ensures { λ r. ⌜ r ≡ lookMore k task j released finished self ⌝ }
     {
         let number = number_of(task, j, released, finished);
@@ -75,19 +75,21 @@ impl Look {
         if !j.stage.is_running() {
             return look;
         }
-        look.running = self.running + 1;
+        let running = Cores(self.running.0 + 1);
+        look.running = running;
         look.held = self.held | j.held;
         if finished {
             return look;
         }
-        look.stays = self.stays + 1;
+        let stays = Cores(self.stays.0 + 1);
+        look.stays = stays;
         look.busy = self.busy | j.held;
         look
     }
 
     // Refusal 14 is not given, where `past` is 0 if the entries past n are.
     fn finds_good(self, past: u64, cores: Cores) -> bool
-        ensures { λ r. ⌜ r ≡ foundGood self past (cores .0) ⌝ }
+        ensures { λ r. ⌜ r ≡ foundGood self past cores ⌝ }
     {
         if !self.good {
             return false;
@@ -95,7 +97,7 @@ impl Look {
         if past != 0 {
             return false;
         }
-        self.running <= cores.0
+        self.running.0 <= cores.0
     }
 
     // Task k more.
@@ -108,7 +110,7 @@ impl Look {
         released: u32,
         finished: u32,
     ) -> Look
-        requires { ⌜ (self .good ≡ true → p .0 ≤ mostPartitions) × (self .running < mostTasks) × (self .stays < mostTasks) ⌝ }
+        requires { ⌜ (self .good ≡ true → p .0 ≤ mostPartitions) × (self .running .0 < mostTasks) × (self .stays .0 < mostTasks) ⌝ }
         ensures { λ r. ⌜ r ≡ lookWith k (p .0) task j released finished self ⌝ }
     {
         if !self.admits(p, task, j) {
@@ -174,8 +176,8 @@ impl Past {
 
 // The refusal of a tick by what the first pass found, where `named` has the tasks of both sets.
 pub(crate) fn refusal_of(look: Look, past: u64, cores: Cores, n: usize, named: u32) -> Refusal
-    requires { ⌜ (foundGood look past (cores .0) ≡ true → n ≤ mostTasks) ⌝ }
-    ensures { λ r. ⌜ r ≡ foundRefusal look past (cores .0) n named ⌝ }
+    requires { ⌜ (foundGood look past cores ≡ true → n ≤ mostTasks) ⌝ }
+    ensures { λ r. ⌜ r ≡ foundRefusal look past cores n named ⌝ }
 {
     if !look.finds_good(past, cores) {
         return refusal(14, 0);

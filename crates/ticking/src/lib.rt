@@ -14,18 +14,20 @@ use machine::Answer;
 use machine::Job;
 use machine::Machine;
 use machine::Ticked;
+use table::Cores;
+use table::Partitions;
 use table::Refusal;
 use table::Table;
 use table::Task;
 
-// What a tick's first pass found so far: the state is good; the first of refusals 10 to 13; how many jobs run and what they hold, and
-// how many of them go on running after step 2, and what those hold.
+// What a tick's first pass found so far: the state is good; the first of refusals 10 to 13; the cores that running jobs have and the
+// partitions that they hold, and those of the jobs that go on running after step 2.
 struct Look {
     good: bool,
     refused: Refusal,
-    running: u32,
+    running: Cores,
     held: u64,
-    stays: u32,
+    stays: Cores,
     busy: u64,
 }
 
@@ -35,14 +37,14 @@ struct Past {
     job: Job,
 }
 
-// What a tick's second pass made so far: the job that it came to last; whether step 5 goes on, with how many running jobs, which
-// idle partitions and how many; and the sets to answer.
+// What a tick's second pass made so far: the job that it came to last; whether step 5 goes on, with how many idle cores, which idle
+// partitions and how many; and the sets to answer.
 struct Walk {
     job: Job,
     goes: bool,
-    running: u32,
+    cores: Cores,
     idle: u64,
-    room: u32,
+    partitions: Partitions,
     late: u32,
     started: u32,
 }
@@ -88,17 +90,10 @@ pub fn tick(m: Machine, released: u32, finished: u32) -> Ticked
     let marks = past.marks();
     let refused = refusal_of(look, marks, t.platform.cores, t.n, released | finished);
     let moved = accepted_tasks(refused, n);
-    let mut walk = Walk::start(t.platform.partitions, look);
+    let mut walk = Walk::start(t.platform, look);
     let mut i: usize = 0;
     while i < moved {
-        walk = walk.with(
-            i + 1,
-            t.platform.cores,
-            t.rows[i],
-            jobs[i],
-            released,
-            finished,
-        );
+        walk = walk.with(i + 1, t.rows[i], jobs[i], released, finished);
         let job = walk.job;
         jobs[i] = job;
         i += 1;

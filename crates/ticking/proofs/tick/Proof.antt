@@ -3,7 +3,7 @@ use mathlib.Core.Path.{_≡_}
 use lib.ListN.{length}
 use Rattle.maths.proofs.Lists.{len-mapped}
 use Rattle.table.specs.Limits.{mostTasks}
-use Rattle.ticking.proofs.TickCode.{machineOf}
+use Rattle.machine.proofs.Jobs.{machineOf}
 use Rattle.ticking.proofs.TickLoops.{Judging, judging-none, judging-turn, judging-more, Ending, ending-none, ending-more, ending-few, Moving, moving-none, moving-turn, moving-more, moving-ends}
 use borrow.Author.Needs.{needs}
 use Rattle.ticking.proofs.tick.Statement.{statement}
@@ -142,7 +142,7 @@ array-copy-out-with-3 : tie.Need-array-copy-out-with-3 Inv-loop μ-loop Inv-loop
 array-copy-out-with-3 c = search needs
 
 with-requires-3 : tie.Need-with-requires-3 Inv-loop μ-loop Inv-loop2 μ-loop2 Inv-loop3 μ-loop3
-with-requires-3 c κs = moving-turn _ _ _ _ _ _ _ _ (c .before .before .before .before .loop3 .inv) (search needs)
+with-requires-3 c κs = moving-turn _ _ _ _ _ _ _ _ (c .before .before .before .loop3 .inv) (search needs)
 
 mul-jobs : tie.Need-mul-jobs Inv-loop μ-loop Inv-loop2 μ-loop2 Inv-loop3 μ-loop3
 mul-jobs c = search needs
@@ -157,7 +157,7 @@ loop3-less : tie.Need-loop3-less Inv-loop μ-loop Inv-loop2 μ-loop2 Inv-loop3 �
 loop3-less c = search needs
 
 loop3-again : tie.Need-loop3-again Inv-loop μ-loop Inv-loop2 μ-loop2 Inv-loop3 μ-loop3
-loop3-again c = moving-more _ _ _ _ _ _ _ _ (c .before .before .before .before .before .before .loop3 .inv) (search needs) (c .before .with3 .result) (c .before .with3 .ensures)
+loop3-again c = moving-more _ _ _ _ _ _ _ _ (c .before .before .before .before .before .loop3 .inv) (search needs) (c .before .with3 .result) (c .before .with3 .ensures)
 
 accepted-set-requires : tie.Need-accepted-set-requires Inv-loop μ-loop Inv-loop2 μ-loop2 Inv-loop3 μ-loop3
 accepted-set-requires c κs = search needs

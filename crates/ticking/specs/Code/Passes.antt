@@ -5,13 +5,16 @@ use mathlib.Core.Bool.{Bool, true, false, cond, not, _&&_}
 use lib.Bits.{bitOr}
 use lib.Dec.{ltb, leb, eqb}
 use Rattle.maths.specs.Tasks.{lowest}
+use Rattle.table.specs.declared.Cores.{Cores}
+use Rattle.table.specs.declared.Partitions.{Partitions}
 use Rattle.table.specs.declared.Task.{Task}
+use Rattle.table.specs.declared.Platform.{Platform}
 use Rattle.table.specs.declared.Table.{Table}
 use Rattle.table.specs.declared.Refusal.{Refusal}
 use Rattle.table.specs.Limits.{mostTasks, mostPartitions}
 use Rattle.table.specs.Tasks.{D, T, C, A, noTask}
 use Rattle.table.specs.Refused.{sizesRefusal, rowRefusal}
-use Rattle.sets.specs.Sets.{size, below, without, disjoint}
+use Rattle.sets.specs.Sets.{partitionsIn, below, without, disjoint}
 use Rattle.sets.specs.TaskSets.{hasTask, taskBit}
 use Rattle.sets.specs.Choice.{choice}
 use Rattle.machine.specs.declared.Job.{Job}
@@ -20,7 +23,7 @@ use Rattle.ticking.specs.declared.Past.{Past}
 use Rattle.ticking.specs.declared.Walk.{Walk}
 use Rattle.machine.specs.Jobs.{isIdle, isWaiting, isRunning, noJob}
 use Rattle.machine.specs.Conditions.{isNoTask, isNoJob, goodJob}
-use Rattle.machine.specs.Steps.{older, begun}
+use Rattle.machine.specs.Steps.{older, fitsIn, begun}
 use Rattle.machine.specs.Code.Readied.{finishedJob, readiedJob}
 
 -- a task that idles and is not in the set x
@@ -58,7 +61,7 @@ firstOf r number k =
 
 -- the first pass: what it starts from, and one task of the table more; a state that is not good is not looked at further
 abbrev pub lookStart : Table → Look
-lookStart t = record { good = eqb (sizesRefusal t) 0; refused = refuses 0 0; running = 0; held = 0; stays = 0; busy = 0 }
+lookStart t = record { good = eqb (sizesRefusal t) 0; refused = refuses 0 0; running = record { 0 = 0 }; held = 0; stays = record { 0 = 0 }; busy = 0 }
 
 abbrev pub lookBad : Look → Look
 lookBad l =
@@ -67,14 +70,18 @@ lookBad l =
 abbrev pub admits : ℕ → Task → Job → Look → Bool
 admits p τ j l = l .good && eqb (rowRefusal p τ) 0 && goodJob p τ j && disjoint (l .held) (j .held)
 
+-- a job more, which has a core if it runs
+abbrev pub coresAnd : Cores → Job → Cores
+coresAnd cores j = record { 0 = cores .0 + cond (isRunning (j .stage)) 1 0 }
+
 abbrev pub lookMore : ℕ → Task → Job → Bool → Bool → Look → Look
 lookMore k τ j released finished l =
     record {
       good = true;
       refused = firstOf (l .refused) (givenNumber τ j released finished) k;
-      running = l .running + cond (isRunning (j .stage)) 1 0;
+      running = coresAnd (l .running) j;
       held = bitOr (l .held) (j .held);
-      stays = cond finished (l .stays) (l .stays + cond (isRunning (j .stage)) 1 0);
+      stays = cond finished (l .stays) (coresAnd (l .stays) j);
       busy = cond finished (l .busy) (bitOr (l .busy) (j .held));
     }
 
@@ -105,26 +112,32 @@ abbrev pub pastNone : Past → Bool
 pastNone p = isNoTask (p .row) && isNoJob (p .job)
 
 -- refusal 14 is not given, by what the first pass found of tasks 1 to n and of the entries past n
-abbrev pub foundGood : Look → ℕ → ℕ → Bool
-foundGood l past m = l .good && eqb past 0 && leb (l .running) m
+abbrev pub foundGood : Look → ℕ → Cores → Bool
+foundGood l past cores = l .good && eqb past 0 && leb (l .running .0) (cores .0)
 
 -- the lowest task above n in the set, or 0
 abbrev pub firstAbove : ℕ → ℕ → ℕ
 firstAbove x n = lowest mostTasks (λ k. ltb n k && hasTask x k)
 
-unfoldable pub foundRefusal : Look → ℕ → ℕ → ℕ → ℕ → Refusal
-foundRefusal l past m n named =
-    cond (foundGood l past m) (cond (eqb (firstAbove named n) 0) (l .refused) (refuses 9 (firstAbove named n))) (refuses 14 0)
+unfoldable pub foundRefusal : Look → ℕ → Cores → ℕ → ℕ → Refusal
+foundRefusal l past cores n named =
+    cond (foundGood l past cores) (cond (eqb (firstAbove named n) 0) (l .refused) (refuses 9 (firstAbove named n))) (refuses 14 0)
 
 -- the second pass: what it starts from, and one task more
-abbrev pub walkStart : ℕ → Look → Walk
-walkStart p l =
+abbrev pub coresLess : Cores → Cores → Cores
+coresLess cores busy = record { 0 = cores .0 - busy .0 }
+
+abbrev pub partitionsLess : Partitions → ℕ → ℕ
+partitionsLess partitions busy = without (below (min (partitions .0) mostPartitions)) busy
+
+abbrev pub walkStart : Platform → Look → Walk
+walkStart platform l =
     record {
       job = noJob;
       goes = true;
-      running = l .stays;
-      idle = without (below (min p 64)) (l .busy);
-      room = size mostPartitions (without (below (min p 64)) (l .busy));
+      cores = coresLess (platform .cores) (l .stays);
+      idle = partitionsLess (platform .partitions) (l .busy);
+      partitions = partitionsIn (partitionsLess (platform .partitions) (l .busy));
       late = 0;
       started = 0;
     }
@@ -136,34 +149,34 @@ isLate τ before j = not (isIdle (j .stage)) && eqb (before + 1) (D τ) && eqb (
 abbrev pub tries : Job → Walk → Bool
 tries j w = w .goes && isWaiting (j .stage)
 
-abbrev pub hasRoom : ℕ → Task → Walk → Bool
-hasRoom m τ w = ltb (w .running) m && leb (A τ) (w .room)
+abbrev pub hasRoom : Task → Walk → Bool
+hasRoom τ w = fitsIn (w .cores) (w .partitions) τ
 
 -- the task of job j starts, or step 5 ends with it, or it is not its turn
 abbrev pub walkGo : ℕ → Task → Job → ℕ → Walk → Walk
 walkGo k τ j late w =
     record {
       job = begun (choice (w .idle) (A τ)) j;
-      goes = true;
-      running = w .running + 1;
+      goes = w .goes;
+      cores = record { 0 = w .cores .0 - 1 };
       idle = without (w .idle) (choice (w .idle) (A τ));
-      room = w .room - A τ;
+      partitions = record { 0 = w .partitions .0 - A τ };
       late = late;
       started = bitOr (w .started) (taskBit k);
     }
 
 abbrev pub walkBy : Bool → Job → ℕ → Walk → Walk
 walkBy goes j late w =
-    record { job = j; goes = goes; running = w .running; idle = w .idle; room = w .room; late = late; started = w .started }
+    record { job = j; goes = goes; cores = w .cores; idle = w .idle; partitions = w .partitions; late = late; started = w .started }
 
-abbrev pub walkBegin : ℕ → ℕ → Task → Job → ℕ → Walk → Walk
-walkBegin k m τ j late w = cond (tries j w) (cond (hasRoom m τ w) (walkGo k τ j late w) (walkBy false j late w)) (walkBy (w .goes) j late w)
+abbrev pub walkBegin : ℕ → Task → Job → ℕ → Walk → Walk
+walkBegin k τ j late w = cond (tries j w) (cond (hasRoom τ w) (walkGo k τ j late w) (walkBy false j late w)) (walkBy (w .goes) j late w)
 
 abbrev pub lateWith : ℕ → Task → ℕ → Job → ℕ → ℕ
 lateWith k τ before j late = bitOr late (cond (isLate τ before j) (taskBit k) 0)
 
-unfoldable pub walkWith : ℕ → ℕ → Task → Job → ℕ → ℕ → Walk → Walk
-walkWith k m τ j released finished w =
-    walkBegin k m τ (readiedJob τ (hasTask released k) (hasTask finished k) j)
+unfoldable pub walkWith : ℕ → Task → Job → ℕ → ℕ → Walk → Walk
+walkWith k τ j released finished w =
+    walkBegin k τ (readiedJob τ (hasTask released k) (hasTask finished k) j)
     (lateWith k τ (j .age) (finishedJob τ (hasTask finished k) j) (w .late))
     w

@@ -24,8 +24,8 @@ returns c =
     rw (c .before .before .first-of .ensures, n .number-of .ensures)
     (look-still (s .args .k) (s .args .task) (s .args .j) (s .args .released) (s .args .finished) (s .args .self) still (s .pre .3 still))
 
-add-look : tie.Need-add-look
-add-look c = search needs
+add-running : tie.Need-add-t14
+add-running c = search needs
 
 -- it runs
 running : (c : tie.Else1) → isRunning (c .before .before .before .before .args .j .stage) ≡ true
@@ -36,8 +36,8 @@ returns-2 c =
     let e = c .before .before .before .before in
     rw (e .before .before .first-of .ensures, e .before .before .before .number-of .ensures) (rw (running e, c .if2 .taken))
 
-add-look-2 : tie.Need-add-look-2
-add-look-2 c = search needs
+add-stays : tie.Need-add-t14-2
+add-stays c = search needs
 
 returns-3 : tie.Need-returns-3
 returns-3 c =
@@ -53,7 +53,7 @@ more-spec =
     first-of-requires
     is-running-requires
     returns
-    add-look
+    add-running
     returns-2
-    add-look-2
+    add-stays
     returns-3)

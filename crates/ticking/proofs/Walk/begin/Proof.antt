@@ -1,6 +1,6 @@
 use mathlib.Core.Path.{sym, _∙_}
 use borrow.Author.Tests.{leb-true, not-true, not-false}
-use lib.Dec.{ltb}
+use lib.Dec.{leb}
 use Rattle.maths.proofs.Tests.{both}
 use Rattle.table.specs.Tasks.{A}
 use borrow.Author.Needs.{needs}
@@ -16,8 +16,8 @@ by-requires c κs = search needs
 returns : tie.Need-returns
 returns c = rw (sym (c .before .before .tries .ensures) ∙ not-true _ (c .before .if1 .taken)) (c .by .ensures)
 
-has-room-requires : tie.Need-has-room-requires
-has-room-requires c κs = search needs
+fits-in-requires : tie.Need-fits-in-requires
+fits-in-requires c κs = search needs
 
 by-requires-2 : tie.Need-by-requires-2
 by-requires-2 c κs = search needs
@@ -25,20 +25,19 @@ by-requires-2 c κs = search needs
 returns-2 : tie.Need-returns-2
 returns-2 c =
     let e = c .before .before in
-    rw (sym (e .before .before .tries .ensures) ∙ not-false _ (e .before .if1 .left), sym (e .has-room .ensures) ∙ not-true _ (c .before .if2 .taken)) (c .by2 .ensures)
+    rw (sym (e .before .before .tries .ensures) ∙ not-false _ (e .before .if1 .left), sym (e .fits-in .ensures) ∙ not-true _ (c .before .if2 .taken)) (c .by2 .ensures)
 
 go-requires : tie.Need-go-requires
 go-requires c κs =
     let e = c .before in
     let s = e .before .before .before in
-    let room = both (ltb (s .args .self .running) (s .args .cores .0)) _ (sym (e .has-room .ensures) ∙ not-false _ (c .if2 .left)) in
-    let goes = both (s .args .self .goes) _ (sym (e .before .before .tries .ensures) ∙ not-false _ (e .before .if1 .left)) in
-    (goes .0, s .pre, leb-true (A (s .args .task)) (s .args .self .room) (room .1))
+    let room = both (leb 1 (s .args .self .cores .0)) _ (sym (e .fits-in .ensures) ∙ not-false _ (c .if2 .left)) in
+    (leb-true 1 (s .args .self .cores .0) (room .0), leb-true (A (s .args .task)) (s .args .self .partitions .0) (room .1))
 
 returns-3 : tie.Need-returns-3
 returns-3 c =
     let e = c .before .before in
-    rw (sym (e .before .before .tries .ensures) ∙ not-false _ (e .before .if1 .left), sym (e .has-room .ensures) ∙ not-false _ (c .before .if2 .left)) (c .go .ensures)
+    rw (sym (e .before .before .tries .ensures) ∙ not-false _ (e .before .if1 .left), sym (e .fits-in .ensures) ∙ not-false _ (c .before .if2 .left)) (c .go .ensures)
 
 pub begin-spec : {M : Type 1} → statement M
 begin-spec =
@@ -47,7 +46,7 @@ begin-spec =
     tries-requires
     by-requires
     returns
-    has-room-requires
+    fits-in-requires
     by-requires-2
     returns-2
     go-requires

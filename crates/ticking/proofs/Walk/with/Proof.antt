@@ -17,7 +17,7 @@ by-requires c κs = search needs
 returns : tie.Need-returns
 returns c =
     let l = c .before .before in
-    c .by .ensures ∙ rw (c .before .older-job .ensures) (walk-left _ _ _ _ _ (sym (l .before .is-left .ensures) ∙ l .if1 .taken) _ _)
+    c .by .ensures ∙ rw (c .before .older-job .ensures) (walk-left _ _ _ _ _ (sym (l .before .is-left .ensures) ∙ l .if1 .taken) _)
 
 has-task-requires : tie.Need-has-task-requires
 has-task-requires c κs = search needs

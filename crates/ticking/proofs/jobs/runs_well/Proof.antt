@@ -1,7 +1,8 @@
 use Prim.Native.Nat.{_-_, min}
-use mathlib.Core.Path.{_≡_, sym, _∙_}
+use mathlib.Core.Path.{_≡_, sym, _∙_, ap}
 use native.Mathlib.Omega.{arith}
 use borrow.Author.Tests.{le-leb, lt-leb, eq-eqb, ne-eqb}
+use Rattle.table.specs.declared.Partitions.{Partitions}
 use Rattle.table.specs.Limits.{mostPartitions}
 use Rattle.table.specs.Tasks.{C, A}
 use Rattle.sets.specs.Sets.{size}
@@ -24,8 +25,8 @@ size-requires c κs = search needs
 
 returns-3 : tie.Need-returns-3
 returns-3 c =
-    let s = c .before .before .before .before .before .before .before .before in
-    let ne : size mostPartitions (s .args .j .held) ≡ A (s .args .task) → ⊥ = λ e. c .if3 .taken (c .before .before .size .ensures ∙ e) in
+    let s = c .before .before .before .before .before .before .before .before .before in
+    let ne : size mostPartitions (s .args .j .held) ≡ A (s .args .task) → ⊥ = λ e. c .if3 .taken (ap (λ (x : Partitions). x .0) (c .before .before .before .size .ensures) ∙ e) in
     rw (
       le-leb (s .args .j .ran) (C (s .args .task) - 1) (omega arith),
       le-leb (s .args .j .ran) (s .args .j .age) (omega arith),
@@ -40,8 +41,8 @@ without-requires c κs = search needs
 
 returns-4 : tie.Need-returns-4
 returns-4 c =
-    let s = c .before .before .before .before .before .before .before .before .before .before in
-    let e : size mostPartitions (s .args .j .held) ≡ A (s .args .task) = sym (c .before .before .before .before .size .ensures) ∙ c .before .before .if3 .left in
+    let s = c .before .before .before .before .before .before .before .before .before .before .before in
+    let e : size mostPartitions (s .args .j .held) ≡ A (s .args .task) = sym (ap (λ (x : Partitions). x .0) (c .before .before .before .before .before .size .ensures)) ∙ c .before .before .if3 .left in
     let least : min (s .args .p .0) 64 ≡ s .args .p .0 = omega arith in
     rw (
       le-leb (s .args .j .ran) (C (s .args .task) - 1) (omega arith),

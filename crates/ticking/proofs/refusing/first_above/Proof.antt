@@ -5,8 +5,7 @@ use borrow.Author.Tests.{ltb-true}
 use borrow.Author.Needs.{needs}
 use Rattle.maths.specs.Tasks.{lowest}
 use Rattle.table.specs.Limits.{mostTasks}
-use Rattle.ticking.proofs.TickRules.{above, above-none, above-found, above-past}
-use Rattle.ticking.proofs.TickAllowed.{none-above}
+use Rattle.ticking.proofs.TickRules.{above, above-none, above-found, above-past, none-above}
 use Rattle.ticking.proofs.refusing.first_above.Statement.{statement}
 use Rattle.ticking.proofs.refusing.first_above.Tie as tie
 

@@ -9,12 +9,12 @@ use Rattle.table.specs.declared.Task.{Task}
 use Rattle.table.specs.Limits.{mostTasks}
 use Rattle.table.specs.Tasks.{τ, T, C}
 use Rattle.sets.specs.TaskSets.{hasTask}
 use Rattle.machine.specs.declared.Job.{Job}
 use Rattle.machine.specs.declared.Machine.{Machine}
 use Rattle.machine.specs.Jobs.{isIdle, isRunning, job}
 use Rattle.machine.specs.Steps.{older}
 use Rattle.machine.proofs.Jobs.{finishedJob, passed-job, finished-job}
-use Rattle.conduct.proofs.Accepted.{Accepted}
+use Rattle.machine.proofs.Accepted.{Accepted}
 
 -- Of a task τ and its job j, finished and released as f and r say: that none of 10 to 13 is given.
 pub record Taken (τ : Task) (r f : Bool) (j : Job) : Type 0 where

@@ -1,9 +1,7 @@
--- A lent row of task records as a table (document 01, "The task table comes as a lent row of task records").
--- Its count is the whole row's, so that 33 rows earn refusal 1 and are never cut to 32.
+-- The table of a lent row on its way, as the code fills it. No statement of a public function rests on these definitions.
 use Prim.Native.Nat.{ℕ}
-use mathlib.Core.List.{List}
-use lib.ListN.{length, set}
-use Rattle.maths.specs.Tasks.{tabulate, entry}
+use lib.ListN.{set}
+use Rattle.maths.specs.Tasks.{tabulate}
 use Rattle.table.specs.declared.Platform.{Platform}
 use Rattle.table.specs.declared.Task.{Task}
 use Rattle.table.specs.declared.Table.{Table}

@@ -13,7 +13,7 @@ use Rattle.table.specs.Limits.{mostTasks}
 use Rattle.table.specs.Refused.{refusal}
 use Rattle.table.proofs.Good.{good-of}
 use Rattle.admission.specs.Test.{passes, admitted, firstFailing}
-use Rattle.admission.specs.Answers.{accepted, quickAnswer}
+use Rattle.admission.specs.Answers.{unrefused, quickAnswer}
 use Rattle.admission.specs.declared.FullAnswer.{FullAnswer}
 use Rattle.admission.specs.declared.QuickAnswer.{QuickAnswer}
 use Rattle.writers.specs.Outputs.{refusedText, marginsText}
@@ -46,9 +46,9 @@ lowest-most n f = go (lowest n f) refl
 -- a first failing task is a task
 pub first-most : (t : Table) → length (t .rows) ≡ mostTasks → quickAnswer t .first ≤ mostTasks
 unfolding quickAnswer
-first-most t len = go (accepted t) refl
+first-most t len = go (unrefused t) refl
   where
-    go : (b : Bool) → accepted t ≡ b
+    go : (b : Bool) → unrefused t ≡ b
         → cond {A = QuickAnswer} b (record { refused = refusal t; admitted = admitted t; first = firstFailing t }) (record { refused = refusal t; admitted = false; first = 0 }) .first ≤ mostTasks
     go true e =
         let few = good-of t len (eqb-true _ _ e) .few in

@@ -33,7 +33,7 @@ use Rattle.promise.specs.Sequences.{Report}
 use Rattle.promise.specs.Promise.{Admitted, Kept}
 use Rattle.promise.proofs.Demand3 as promise
 use Rattle.promise.proofs.Test.{not-refused}
-use Rattle.gorsetumble.specs.Demands.{Demand1, Demand2, Demand3, since}
+use Rattle.gorsetumble.specs.Demands.{LentDemand1, LentDemand2, LentDemand3, since}
 
 pub set-up-number : (m : Machine) (t : Table) → setUp m t .refused .number ≡ refusal t .number
 unfolding setUp
@@ -72,7 +72,7 @@ no-stage-tick : (m : Machine) (released finished : ℕ) → goodState m ≡ fals
 unfolding tick tickRefusal
 no-stage-tick m released finished e = rw e
 
-pub demand-1 : Demand1
+pub demand-1 : LentDemand1
 demand-1 =
     record {
       setUpRefused = λ m p rows h. ap (λ (s : SetUp). s .machine) (set-up-refused m (tableOf p rows) (λ e. h (set-up-number m (tableOf p rows) ∙ e)));
@@ -90,7 +90,7 @@ too-many-refused : (p : Platform) (rows : List Task) → mostTasks < length rows
 unfolding refusal tableRules
 too-many-refused p rows l = rw (le-ltb (length rows) 1 (omega arith), lt-ltb mostTasks (length rows) l)
 
-pub demand-2 : Demand2
+pub demand-2 : LentDemand2
 demand-2 = record { none = no-rows-refused; tooMany = too-many-refused; agree = λ p rows. answers-agree (tableOf p rows) }
 
 -- of a table that is admitted: set-up is not refused, and from there on the machine keeps the promise
@@ -101,5 +101,5 @@ promised m t a reports =
       subst (λ (s : Machine). Kept t (since s reports)) (sym (ap (λ (s : SetUp). s .machine) (set-up-fresh m t fits))) (promise.demand-3 t a reports),
     )
 
-pub demand-3 : Demand3
+pub demand-3 : LentDemand3
 demand-3 m p rows v = promised m (tableOf p rows) (record { whole = length-padded noTask mostTasks rows; verdict = v })

@@ -1,4 +1,5 @@
 pub mod Board
+pub mod BoardContracts
 pub mod BoardTable
 pub mod Cut
 pub mod Data

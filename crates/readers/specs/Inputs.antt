@@ -56,5 +56,5 @@ firstTick = length (ticksForm .header ++ crlf)
 
 unfoldable pub tickAt : List ℕ → ℕ → TickRead
 tickAt text at =
-    let row = rowAt text at 2 in
+    let row = rowAt text at ticksForm in
     record { tick = tickOf (row .numbers); next = row .next }

@@ -23,7 +23,7 @@ use Rattle.table.proofs.Refusals.{refusal-carries}
 use Rattle.readers.specs.Inputs.{taskOf}
 use Rattle.admission.specs.declared.QuickAnswer.{QuickAnswer}
 use Rattle.admission.specs.Test as test
-use Rattle.admission.specs.Answers.{accepted, quickAnswer}
+use Rattle.admission.specs.Answers.{unrefused, quickAnswer}
 use Rattle.admission.proofs.Laws.{admitted-is}
 use Rattle.admission.proofs.Answers.{first-le}
 use Rattle.machine.specs.declared.Machine.{Machine}
@@ -42,7 +42,7 @@ use Rattle.gorsetumble.proofs.Demands.{promised}
 module _ (t : Table) where
   pub quick-refusal : quickAnswer t .refused ≡ refusal t
   unfolding quickAnswer
-  quick-refusal = by (accepted t)
+  quick-refusal = by (unrefused t)
     where
       by : (b : Bool) → cond {A = QuickAnswer} b (record { refused = refusal t; admitted = test.admitted t; first = test.firstFailing t }) (record { refused = refusal t; admitted = false; first = 0 }) .refused ≡ refusal t
       by true = refl

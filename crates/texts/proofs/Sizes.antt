@@ -12,6 +12,7 @@ use lib.ListN.{length, getD, take, length-append, length-take}
 use lib.Seq.{getD-take}
 use Rattle.maths.specs.Tasks.{tabulate}
 use Rattle.maths.proofs.Signed.{sub-mag}
+use Rattle.maths.proofs.Sums.{sum-const, sum-mono}
 use Rattle.maths.proofs.Tasks.{length-tabulate, getD-tabulate}
 use Rattle.maths.proofs.Padded.{length-padded}
 use Rattle.maths.proofs.Tests.{both}
@@ -31,9 +32,9 @@ use Rattle.table.specs.Good.{Good}
 use Rattle.table.proofs.Good.{good-of}
 use Rattle.table.proofs.Refusals.{refusal-carries}
 use Rattle.admission.specs.declared.FullAnswer.{FullAnswer}
-use Rattle.admission.specs.Test.{load, limit, less, margin, admitted, firstFailing}
-use Rattle.admission.specs.Answers.{accepted, margins, fullAnswer}
-use Rattle.admission.proofs.Bounds.{load-small, limit-small}
+use Rattle.admission.specs.Test.{interference, weight, load, limit, less, margin, admitted, firstFailing}
+use Rattle.admission.specs.Answers.{unrefused, margins, fullAnswer}
+use Rattle.admission.proofs.Bounds.{mostTerm, row-good, term-le, B-le, S-le, limit-small}
 use Rattle.readers.specs.Inputs.{badText}
 use Rattle.writers.specs.Signed.{marginOf, sign, marginRow}
 use Rattle.writers.specs.Outputs.{refusedText, marginLines, marginsText}
@@ -96,9 +97,20 @@ lines-most k (z ∷ zs) h small =
     simp length-append (omega arith)
 
 module _ (t : Table) (g : Good t) where
+  load-small : (i : ℕ) → i < t .n → load t (suc i) < 2 ^ 62
+  unfolding load interference
+  load-small i l =
+      let few = g .few in
+      omega (
+        arith,
+        sum-const mostTerm (t .n),
+        sum-mono (λ j. weight t (suc i) (suc j) * interference t (suc i) (suc j)) (λ j. mostTerm) (t .n)
+            (λ j h. term-le (row-good g j h) (g .cores) (B-le g i l) (S-le g i l)),
+      )
+
   margin-fits : (i : ℕ) → i < t .n → mag (margin t (suc i)) < 2 ^ 63
   unfolding less
-  margin-fits i l = sub-mag (limit t (suc i)) (load t (suc i)) (limit-small g i l) (load-small g i l)
+  margin-fits i l = sub-mag (limit t (suc i)) (load t (suc i)) (limit-small g i l) (load-small i l)
 
   held-fits : (i : ℕ) → i < length (take (t .n) (margins t)) → mag (getD (take (t .n) (margins t)) i (pos 0)) < 2 ^ 63
   held-fits i l =
@@ -119,9 +131,9 @@ module _ (t : Table) (g : Good t) where
 
 judged-most : (t : Table) → length (t .rows) ≡ mostTasks → length (judged t) ≤ admitMost
 unfolding fullAnswer
-judged-most t len = go (accepted t) refl
+judged-most t len = go (unrefused t) refl
   where
-    go : (b : Bool) → accepted t ≡ b
+    go : (b : Bool) → unrefused t ≡ b
         → length (answerText (t .n)
         (cond b
         (record { refused = refusal t; admitted = admitted t; first = firstFailing t; margins = margins t })

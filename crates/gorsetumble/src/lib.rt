@@ -92,7 +92,5 @@ pub extern "C" fn gorsetumble_set_up(m: &mut Machine, platform: Platform, rows: 
 pub extern "C" fn gorsetumble_tick(m: &mut Machine, released: u32, finished: u32) -> Answer
     ensures { λ r. ⌜ (r ≡ tick (now (m .entry)) released finished .answer) × (now (m .exit) ≡ tick (now (m .entry)) released finished .machine) ⌝ }
 {
-    let s = ticking::tick(*m, released, finished);
-    *m = s.machine;
-    s.answer
+    lent::tick(m, released, finished)
 }

@@ -17,7 +17,7 @@ use Rattle.forms.specs.Forms.{tasksForm, crlf}
 use Rattle.forms.specs.Reads.{refused}
 use Rattle.forms.specs.Reader.{read}
 use Rattle.readers.specs.declared.Row.{Row}
-use Rattle.readers.specs.Inputs.{taskOf, tableOf, tableRead}
+use Rattle.readers.specs.Inputs.{taskOf, tableRead}
 use Rattle.readers.specs.Places.{agreeAt, rowAt}
 use Rattle.readers.proofs.Cells.{RowOn}
 use Rattle.readers.proofs.Texts.{Line, Many, line-start, line-end, line-bad, line-row, line-next}
@@ -61,8 +61,7 @@ here-start text k e h =
 module _ (text : List ℕ) (at : ℕ) (kept : List Task) (n : ℕ) (h : Here text at kept n) where
   pub here-end : (platform : Platform) → length text ≤ at
       → tableRead platform (read tasksForm text) ≡ record { refused = noRefusal; table = record { platform = platform; n = n; rows = kept } }
-  unfolding tableOf
-  here-end platform l = ap (tableRead platform) (line-end tasksForm 3 tasks-many text (h .rows) at n (h .line) l) ∙ rw (h .line .count, h .keeps)
+  here-end platform l = ap (tableRead platform) (line-end tasksForm 3 tasks-many text (h .rows) at n (h .line) l) ∙ rw (h .line .count, h .keeps, length-map (h .rows) taskOf)
 
   module _ (less : at < length text) (x : Row) (e : x ≡ rowAt text at 4) where
     pub here-bad : x .whole ≡ false → read tasksForm text ≡ refused (x .next)

@@ -1,0 +1,5 @@
+pub mod Data
+pub mod Lends
+pub mod Machines
+pub mod Moved
+pub mod Walk

@@ -18,7 +18,6 @@ use Rattle.machine.specs.Fresh.{fresh}
 use Rattle.machine.specs.Conditions.{goodJob, goodState}
 use Rattle.machine.specs.Steps.{forTasks, startWaiting}
 use Rattle.machine.specs.Tick.{tickRules, firstGiven, tickRefusal, tick}
-use Rattle.readers.specs.Inputs.{tableOf}
 use Rattle.writers.specs.Outputs.{listing, marginLines, marginsText}
 use Rattle.writers.specs.Signed.{marginRow}
 use Rattle.texts.specs.Given.{taken}
@@ -27,5 +26,5 @@ use Rattle.runs.specs.Ticks.{runRows, ticksText}
 use Rattle.cases.specs.Rows.{Case, answered, tickedRows, after, cases}
 
 pub cases-hold : map (λ (c : Case). answered (c .asked)) cases ≡ map (λ (c : Case). c .expected) cases
-unfolding padded sum every lowest tabulate digits digitsIn line lines run grow step rowsAt read tableRules rowRules rowsFrom refusal Amax interference load limit less fullAnswer size members setOf setWhere unionOf allApart choice running busy fresh goodJob goodState forTasks startWaiting tickRules firstGiven tickRefusal tick tableOf listing marginLines marginsText marginRow taken admitText runRows ticksText tickedRows after cases
+unfolding padded sum every lowest tabulate digits digitsIn line lines run grow step rowsAt read tableRules rowRules rowsFrom refusal Amax interference load limit less fullAnswer size members setOf setWhere unionOf allApart choice running busy fresh goodJob goodState forTasks startWaiting tickRules firstGiven tickRefusal tick listing marginLines marginsText marginRow taken admitText runRows ticksText tickedRows after cases
 cases-hold = refl

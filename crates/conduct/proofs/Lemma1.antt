@@ -7,11 +7,11 @@ use native.Mathlib.Decide.{decLt}
 use native.Mathlib.Omega.{arith}
 use borrow.Author.Tests.{leb-false}
 use lib.Dec.{leb}
-use Rattle.table.specs.Tasks.{M, τ, A}
+use Rattle.table.specs.Tasks.{τ, A}
 use Rattle.admission.specs.Test.{Amax}
 use Rattle.admission.proofs.Laws.{Amax-over}
 use Rattle.machine.specs.declared.Machine.{Machine}
-use Rattle.machine.specs.Jobs.{waits, running, idleCores, idlePartitions}
+use Rattle.machine.specs.Jobs.{waits, idleCores, idlePartitions}
 use Rattle.machine.specs.Steps.{firstWaiting, fits, pick}
 use Rattle.machine.proofs.Queue.{first-none, first-task, first-lowest, pick-first}
 use Rattle.machine.proofs.StateParts.{GoodState}

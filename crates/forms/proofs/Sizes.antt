@@ -4,7 +4,7 @@ use mathlib.Core.Path.{_≡_, ap}
 use mathlib.Core.List.{List, [], _∷_, _++_}
 use native.Mathlib.Omega.{arith}
 use native.Mathlib.Decide.{decLt}
-use lib.ListN.{length, length-append}
+use lib.ListN.{length, getD, length-append}
 use Rattle.forms.specs.Digits.{digits}
 use Rattle.forms.specs.Forms.{Form, columns, Within, EachRow, none, also, crlf, ending, line, lines, text}
 use Rattle.forms.proofs.Digits.{width-one, width-more, width-some}
@@ -24,6 +24,11 @@ width-mono (suc k) n m h l = go (decLt n 10) (width-mono k (n / 10) (m / 10))
 pub within-length : {ms ns : List ℕ} → Within ms ns → length ns ≡ length ms
 within-length none = omega arith
 within-length (also f w) = ap suc (within-length w)
+
+pub within-getD : {ms ns : List ℕ} → Within ms ns → (i : ℕ) → getD ns i 0 ≤ getD ms i 0
+within-getD none i = omega arith
+within-getD (also f w) zero = f
+within-getD (also f w) (suc i) = within-getD w i
 
 line-length : (n : ℕ) (ns : List ℕ) → length (line (n ∷ ns)) ≡ length (digits n) + length (ending (length ns)) + length (line ns)
 unfolding line

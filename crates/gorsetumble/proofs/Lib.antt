@@ -1,3 +1,5 @@
+pub mod Board
+pub mod BoardContracts
 pub mod Contracts
 pub mod Cut
 pub mod Demands

@@ -3,7 +3,7 @@ ghost use mathlib.Core.Path.{_≡_};
 ghost use Prim.Native.Nat.{min};
 ghost use lib.ListN.{take};
 ghost use Rattle.machine.specs.Fresh.{setUp};
-ghost use Rattle.gorsetumble.specs.Lent.{tableOf};
+ghost use Rattle.table.specs.Tasks.{tableOf};
 use crate::gorsetumble_set_up;
 use machine::Machine;
 use machine::SetUp;

@@ -1,4 +1,5 @@
 pub mod Data
+pub mod Determined
 pub mod Lends
 pub mod Machines
 pub mod Moved

@@ -1,16 +1,18 @@
 -- Laws of steps 2 and 5 on which the pass of the code and the theorem about sequences stand: who finishes holds nothing, who is picked, what a
 -- start changes, and that the step ends only where nobody is picked.
-use Prim.Native.Nat.{ℕ, zero, suc, _+_, _<_, _≤_}
+use Prim.Native.Nat.{ℕ, zero, suc, _+_, _-_, _<_, _≤_}
 use mathlib.Core.Path.{_≡_, refl, sym, _∙_, ap}
-use mathlib.Core.Bool.{Bool, true, false, cond, true≢false}
+use mathlib.Core.Bool.{Bool, true, false, cond, _&&_, true≢false}
 use native.Mathlib.Decide.{decLt}
 use native.Mathlib.Omega.{arith}
+use borrow.Author.Tests.{lt-ltb, le-ltb, le-leb, lt-leb}
 use lib.Bits.{bitOr}
+use lib.Dec.{ltb, leb}
 use lib.ListN.{length, List·getD-eq-default}
 use Rattle.maths.specs.Sums.{Σ}
 use Rattle.maths.proofs.Sums.{sum-but, sum-one}
 use Rattle.maths.proofs.Tasks.{lowest-none, lowest-holds, lowest-first}
-use Rattle.table.specs.Tasks.{P, τ, A}
+use Rattle.table.specs.Tasks.{M, P, τ, A}
 use Rattle.sets.specs.Sets.{below, without}
 use Rattle.sets.specs.Choice.{choice}
 use Rattle.sets.proofs.Holders.{union-take}
@@ -18,7 +20,7 @@ use Rattle.sets.proofs.Same.{without-both}
 use Rattle.machine.specs.declared.Job.{Job}
 use Rattle.machine.specs.declared.Machine.{Machine}
 use Rattle.machine.specs.declared.Stage.{Stage}
-use Rattle.machine.specs.Jobs.{Running, isWaiting, isRunning, noJob, job, waits, waiting, running, busy, idleSet}
+use Rattle.machine.specs.Jobs.{Running, isWaiting, isRunning, noJob, job, waits, waiting, running, busy, idleSet, idleCores, idlePartitions}
 use Rattle.machine.specs.Steps.{ended, firstWaiting, fits, pick, begun, start, startPicked, startWaiting, startAll}
 use Rattle.machine.proofs.Jobs.{start-same, start-other}
 use Rattle.machine.proofs.StateParts.{Rests, waits-not-runs}
@@ -40,6 +42,17 @@ module _ (m : Machine) (i : ℕ) (first : firstWaiting m ≡ suc i) where
 
   pub first-lowest : (k : ℕ) → k < i → waits m (suc k) ≡ false
   first-lowest k l = lowest-first (waits m) (m .table .n) i first k l
+
+-- what fits, in the words of document 01: fewer than M jobs run and at least A partitions are idle
+pub fits-is : (m : Machine) (k : ℕ) → fits m k ≡ (ltb (running m) (M (m .table)) && leb (A (τ (m .table) k)) (idlePartitions m .0))
+fits-is m k = ap (λ (b : Bool). b && leb (A (τ (m .table) k)) (idlePartitions m .0)) core
+  where
+    core : leb 1 (idleCores m .0) ≡ ltb (running m) (M (m .table))
+    core =
+        elim (decLt (running m) (M (m .table))) [
+          | yes l ↦ rw (lt-ltb (running m) (M (m .table)) l) (le-leb 1 (M (m .table) - running m) (omega arith))
+          | no l ↦ rw (le-ltb (running m) (M (m .table)) (omega arith)) (lt-leb 1 (M (m .table) - running m) (omega arith))
+        ]
 
 -- the first that waits is picked if it fits, and else nobody is
 pub pick-first : (m : Machine) (k : ℕ) → firstWaiting m ≡ k → pick m ≡ cond (fits m k) k 0

@@ -60,7 +60,8 @@ fitsIn cores partitions τ = leb 1 (cores .0) && leb (A τ) (partitions .0)
 abbrev pub fits : Machine → ℕ → Bool
 fits m k = fitsIn (idleCores m) (idlePartitions m) (τ (m .table) k)
 
--- the task that step 5 starts next, or 0 where the step ends: the waiting job of lowest number if it fits, even where a later one would
+-- the task that step 5 starts next: the waiting job of lowest number, if it fits; if not, or where none waits, 0, and the step ends, even
+-- where a later job would fit
 abbrev pub pick : Machine → ℕ
 pick m = cond (fits m (firstWaiting m)) (firstWaiting m) 0
 

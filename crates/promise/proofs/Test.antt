@@ -8,7 +8,7 @@ use Rattle.table.specs.declared.Table.{Table}
 use Rattle.table.specs.Refused.{refusal}
 use Rattle.table.specs.Tasks.{M, τ, A}
 use Rattle.admission.specs.Test.{B, interference, weight, load, limit, passes}
-use Rattle.admission.specs.Answers.{accepted, quickAnswer}
+use Rattle.admission.specs.Answers.{unrefused, quickAnswer}
 use Rattle.admission.proofs.Laws.{passes-is}
 use Rattle.lives.proofs.Weights.{full-weight}
 use Rattle.promise.specs.Promise.{Admitted}
@@ -17,9 +17,9 @@ use Rattle.promise.proofs.Safe.{Safe}
 -- the verdict: no refusal, and every task passes
 verdict-parts : (t : Table) → Admitted t → (refusal t .number ≡ 0) × ((i : ℕ) → i < t .n → load t (suc i) < limit t (suc i))
 unfolding quickAnswer
-verdict-parts t a = by (accepted t) refl
+verdict-parts t a = by (unrefused t) refl
   where
-    by : (b : Bool) → accepted t ≡ b → (refusal t .number ≡ 0) × ((i : ℕ) → i < t .n → load t (suc i) < limit t (suc i))
+    by : (b : Bool) → unrefused t ≡ b → (refusal t .number ≡ 0) × ((i : ℕ) → i < t .n → load t (suc i) < limit t (suc i))
     by true e =
         (eqb-true _ 0 e, λ i l. ltb-true _ _ (sym (passes-is t (suc i)) ∙ every-holds (passes t) (t .n) (rw e at (a .verdict)) i l))
     by false e = absurd (true≢false (sym (rw e at (a .verdict))))

@@ -33,7 +33,7 @@ p1-verdict = refl
 
 pub contended : Contended
 unfolding steps tick tickRefusal firstGiven tickRules goodState goodJob forTasks startWaiting fresh running busy sum every lowest tabulate tableRules rowRules rowsFrom refusal size members setOf setWhere unionOf allApart choice
-contended = record { admitted = record { whole = refl; verdict = p1-verdict }; accepted = refl; started = refl; waits = refl }
+contended = record { admitted = record { whole = refl; verdict = p1-verdict }; oneTick = refl; started = refl; waits = refl }
 
 pub time-goes-on : (t : Table) → Admitted t → (reports : List Report) → GoesOn (sequence t reports)
 time-goes-on t a xs i l =

@@ -5,6 +5,7 @@ use mathlib.Core.List.{List, [], _∷_, _++_, map}
 use lib.ListN.{length, getD}
 use Rattle.table.specs.declared.Platform.{Platform}
 use Rattle.table.specs.declared.Task.{Task}
+use Rattle.table.specs.declared.Table.{Table}
 use Rattle.table.specs.declared.Refusal.{Refusal}
 use Rattle.table.specs.Refused.{noRefusal}
 use Rattle.table.specs.Tasks.{emptyTable, tableOf}
@@ -25,6 +26,10 @@ platformOf row = record { cores = record { 0 = getD row 0 0 }; partitions = reco
 
 abbrev pub taskOf : List ℕ → Task
 taskOf row = record { d = getD row 0 0; t = getD row 1 0; c = getD row 2 0; a = record { 0 = getD row 3 0 } }
+
+-- the table that the rows of a platform text and of a tasks text say
+abbrev pub tableFrom : List (List ℕ) → List (List ℕ) → Table
+tableFrom platform tasks = tableOf (platformOf (getD platform 0 [])) (map taskOf tasks)
 
 abbrev pub noPlatform : Platform
 noPlatform = platformOf []
@@ -51,5 +56,5 @@ firstTick = length (ticksForm .header ++ crlf)
 
 unfoldable pub tickAt : List ℕ → ℕ → TickRead
 tickAt text at =
-    let row = rowAt text at 2 in
+    let row = rowAt text at ticksForm in
     record { tick = tickOf (row .numbers); next = row .next }

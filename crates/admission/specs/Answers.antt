@@ -16,8 +16,8 @@ use Rattle.admission.specs.declared.QuickAnswer.{QuickAnswer}
 use Rattle.admission.specs.Test.{margin, admitted, firstFailing}
 
 -- 0 for an answer's number: the table is not refused
-abbrev pub accepted : Table → Bool
-accepted t = eqb (refusal t .number) 0
+abbrev pub unrefused : Table → Bool
+unrefused t = eqb (refusal t .number) 0
 
 abbrev pub margins : Table → List ℤ
 margins t = tabulate mostTasks (λ k. cond (leb k (t .n)) (margin t k) (pos 0))
@@ -27,12 +27,12 @@ judgement t = record { margins = margins t; first = firstFailing t }
 
 unfoldable pub fullAnswer : Table → FullAnswer
 fullAnswer t =
-    cond (accepted t)
+    cond (unrefused t)
     (record { refused = refusal t; admitted = admitted t; first = firstFailing t; margins = margins t })
     (record { refused = refusal t; admitted = false; first = 0; margins = tabulate mostTasks (λ k. pos 0) })
 
 unfoldable pub quickAnswer : Table → QuickAnswer
 quickAnswer t =
-    cond (accepted t)
+    cond (unrefused t)
     (record { refused = refusal t; admitted = admitted t; first = firstFailing t })
     (record { refused = refusal t; admitted = false; first = 0 })

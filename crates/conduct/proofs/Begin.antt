@@ -17,7 +17,7 @@ use Rattle.sets.proofs.Choices.{choice-lt, choice-free, choice-size}
 use Rattle.sets.proofs.Holders.{apart-take}
 use Rattle.machine.specs.declared.Job.{Job}
 use Rattle.machine.specs.declared.Machine.{Machine}
-use Rattle.machine.specs.Jobs.{job, waits, busy, idleSet, idleCores, idlePartitions}
+use Rattle.machine.specs.Jobs.{job, held, waits, busy, idleSet, idleCores, idlePartitions}
 use Rattle.machine.specs.Steps.{fits, start}
 use Rattle.machine.proofs.Jobs.{start-other}
 use Rattle.machine.proofs.Queue.{new-job, more-run}
@@ -55,13 +55,13 @@ module _ (m : Machine) (i : ℕ) (w : waits m (suc i) ≡ true) where
           | no e ↦ rw (start-other m i j e) (g .each j h)
         ]
 
-    apart : Apart (m .table .n) (λ j. job (start m i) (suc j) .held)
+    apart : Apart (m .table .n) (λ j. held (start m i) (suc j))
     unfolding busy
     apart =
-        apart-take (λ j. job m (suc j) .held) (λ j. job (start m i) (suc j) .held) (m .table .n) i l
+        apart-take (λ j. held m (suc j)) (λ j. held (start m i) (suc j)) (m .table .n) i l
         (λ j h e. ap (λ (x : Job). x .held) (start-other m i j e))
         (g .apart)
-        (rw (new-job m i w) (choice-free (below (P (m .table))) (busy m) (A (τ (m .table) (suc i)))))
+        (rw (held, new-job m i w) (choice-free (below (P (m .table))) (busy m) (A (τ (m .table) (suc i)))))
 
     pub start-good : GoodState (start m i)
     start-good =

@@ -5,7 +5,7 @@ use mathlib.Core.List.{List, [], _∷_, _++_, append-assoc, append-nil}
 use mathlib.Core.Option.{Option, none, some}
 use Rattle.forms.specs.Digits.{digits}
 use Rattle.forms.specs.Forms
-use Rattle.forms.specs.Forms.{Form, Within, Each, crlf, ending, line, lines, text}
+use Rattle.forms.specs.Forms.{Form, Within, EachRow, crlf, ending, line, lines, text}
 
 -- numbers that a comma follows, and what has come of the next
 unfoldable pub cells : List ℕ → List ℕ
@@ -24,7 +24,7 @@ pub within-snoc : {ms ns : List ℕ} {m n : ℕ} → Within ms ns → n ≤ m �
 within-snoc Forms.none f = Forms.also f Forms.none
 within-snoc (Forms.also g w) f = Forms.also g (within-snoc w f)
 
-pub each-snoc : {ms row : List ℕ} {rows : List (List ℕ)} → Each ms rows → Within ms row → Each ms (rows ++ (row ∷ []))
+pub each-snoc : {ms row : List ℕ} {rows : List (List ℕ)} → EachRow ms rows → Within ms row → EachRow ms (rows ++ (row ∷ []))
 each-snoc Forms.none w = Forms.also w Forms.none
 each-snoc (Forms.also v each) w = Forms.also v (each-snoc each w)
 

@@ -1,6 +1,7 @@
+pub mod Board
+pub mod BoardContracts
 pub mod Contracts
 pub mod Cut
-pub mod Data
 pub mod Demands
 pub mod Determined
 pub mod Fill
@@ -9,10 +10,8 @@ pub mod FromTexts
 pub mod TextsRows
 pub mod Judged
 pub mod Lends
-pub mod Moved
 pub mod OfRows
 pub mod Renewed
 pub mod Rows
 pub mod Tables
-pub mod Walk
 pub mod RenewedTexts

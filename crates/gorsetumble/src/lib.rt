@@ -5,10 +5,10 @@ pub mod texting;
 ghost use mathlib.Core.Path.{_≡_};
 ghost use Prim.Native.Nat.{_<_, min};
 ghost use Rattle.table.specs.Limits.{mostTasks};
+ghost use Rattle.table.specs.Tasks.{tableOf};
 ghost use Rattle.admission.specs.Answers.{fullAnswer, quickAnswer};
 ghost use Rattle.machine.specs.Fresh.{setUp};
 ghost use Rattle.machine.specs.Tick.{tick};
-ghost use Rattle.gorsetumble.specs.Lent.{tableOf};
 ghost use Rattle.gorsetumble.specs.Code.Rows.{noRows, withRow};
 use admission::FullAnswer;
 use admission::QuickAnswer;
@@ -92,7 +92,5 @@ pub extern "C" fn gorsetumble_set_up(m: &mut Machine, platform: Platform, rows: 
 pub extern "C" fn gorsetumble_tick(m: &mut Machine, released: u32, finished: u32) -> Answer
     ensures { λ r. ⌜ (r ≡ tick (now (m .entry)) released finished .answer) × (now (m .exit) ≡ tick (now (m .entry)) released finished .machine) ⌝ }
 {
-    let s = ticking::tick(*m, released, finished);
-    *m = s.machine;
-    s.answer
+    lent::tick(m, released, finished)
 }

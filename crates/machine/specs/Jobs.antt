@@ -8,7 +8,8 @@ use Rattle.maths.specs.Sums.{Σ}
 use Rattle.maths.specs.Tasks.{entry, lowest, tabulate}
 use Rattle.table.specs.declared.Cores.{Cores}
 use Rattle.table.specs.declared.Partitions.{Partitions}
-use Rattle.table.specs.Tasks.{M, P}
+use Rattle.table.specs.declared.Task.{Task}
+use Rattle.table.specs.Tasks.{M, P, T}
 use Rattle.sets.specs.Sets.{partitionsIn, below, without}
 use Rattle.sets.specs.Families.{unionOf}
 use Rattle.machine.specs.declared.Stage.{Stage}
@@ -41,6 +42,14 @@ noJob = record { stage = Idle; age = 0; ran = 0; held = 0 }
 abbrev pub job : Machine → ℕ → Job
 job m k = entry (m .jobs) k noJob
 
+-- the partitions that task k holds
+abbrev pub held : Machine → ℕ → ℕ
+held m k = job m k .held
+
+-- where ages are held: an age counts no further
+abbrev pub top : Task → ℕ
+top τ = T τ
+
 abbrev pub idles : Machine → ℕ → Bool
 idles m k = isIdle (job m k .stage)
 
@@ -59,7 +68,7 @@ running m = Σ (m .table .n) (λ k. cond (runs m k) 1 0)
 
 -- the partitions that some job holds
 unfoldable pub busy : Machine → ℕ
-busy m = unionOf (m .table .n) (λ i. job m (suc i) .held)
+busy m = unionOf (m .table .n) (λ i. held m (suc i))
 
 -- the partitions of the platform that no job holds
 abbrev pub idleSet : Machine → ℕ

@@ -8,12 +8,12 @@ use Rattle.table.specs.declared.Cores.{Cores}
 use Rattle.table.specs.declared.Partitions.{Partitions}
 use Rattle.table.specs.declared.Task.{Task}
 use Rattle.table.specs.Limits.{mostTasks}
-use Rattle.table.specs.Tasks.{τ, D, T, A}
+use Rattle.table.specs.Tasks.{τ, D, A}
 use Rattle.sets.specs.TaskSets.{hasTask, tasksWhere}
 use Rattle.sets.specs.Choice.{choice}
 use Rattle.machine.specs.declared.Job.{Job}
 use Rattle.machine.specs.declared.Machine.{Machine}
-use Rattle.machine.specs.Jobs.{Idle, Waiting, Running, isRunning, job, idles, waits, waiting, idleSet, idleCores, idlePartitions}
+use Rattle.machine.specs.Jobs.{Idle, Waiting, Running, isRunning, job, top, idles, waits, waiting, idleSet, idleCores, idlePartitions}
 
 -- the job of each task k from 1 to n changed by f k
 unfoldable pub forTasks : (ℕ → Job → Job) → Machine → Machine
@@ -23,7 +23,7 @@ forTasks f m =
 -- step 1: one unit has passed
 abbrev pub older : Task → Job → Job
 older τ j =
-    record { stage = j .stage; age = min (j .age + 1) (T τ); ran = cond (isRunning (j .stage)) (j .ran + 1) (j .ran); held = j .held }
+    record { stage = j .stage; age = min (j .age + 1) (top τ); ran = cond (isRunning (j .stage)) (j .ran + 1) (j .ran); held = j .held }
 
 abbrev pub passed : Machine → Machine
 passed m = forTasks (λ k. older (τ (m .table) k)) m

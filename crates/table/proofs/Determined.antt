@@ -7,10 +7,14 @@ use Rattle.table.specs.declared.Task.{Task}
 use Rattle.table.specs.declared.Table.{Table}
 use Rattle.table.specs.declared.Refusal.{Refusal}
 use Rattle.table.specs.Tasks.{noTask, emptyTable}
-use Rattle.table.specs.Refused.{sizesRefusal, refusal}
+use Rattle.table.specs.Refused.{sizesRefusal, rowRefusal, refusal}
 
 pub none-determined : (r s : Task) → r ≡ noTask → s ≡ noTask → r ≡ s
 none-determined = determined noTask
+
+-- `Task::refused`, of a row on a cache of p partitions
+pub task-refused-determined : (p : ℕ) (τ : Task) (r s : ℕ) → r ≡ rowRefusal p τ → s ≡ rowRefusal p τ → r ≡ s
+task-refused-determined p τ = determined (rowRefusal p τ)
 
 pub empty-determined : (p : Platform) (r s : Table) → r ≡ emptyTable p → s ≡ emptyTable p → r ≡ s
 empty-determined p = determined (emptyTable p)

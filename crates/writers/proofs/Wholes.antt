@@ -73,6 +73,10 @@ module _ (text buffer after : List ℕ) (w : Written) (h : Wrote text buffer w a
   unfolding written
   wrote-length = ap (λ (x : Written). x .length) (h .answers) ∙ rw (le-leb (length text) (length buffer) fits)
 
+  pub wrote-all : w .refused ≡ noRefusal
+  unfolding written
+  wrote-all = ap (λ (x : Written). x .refused) (h .answers) ∙ rw (le-leb (length text) (length buffer) fits)
+
   pub wrote-holds : after ≡ text ++ drop (length text) buffer
   unfolding leaves
   wrote-holds = h .holds ∙ rw (le-leb (length text) (length buffer) fits)

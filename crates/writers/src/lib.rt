@@ -493,6 +493,7 @@ pub fn write_ticks(released: &[u32], finished: &[u32], buf: &mut [u8]) -> Writte
     Written::whole(end)
 }
 
+#[repr(C)]
 pub struct TextsWritten {
     pub refused: Refusal,
     pub platform: usize,

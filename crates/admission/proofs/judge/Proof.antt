@@ -10,7 +10,7 @@ use Rattle.maths.specs.Tasks.{lowest}
 use Rattle.maths.proofs.Tasks.{lowest-zero, lowest-more}
 use Rattle.table.specs.Tasks.{P}
 use Rattle.admission.specs.Test.{Amax, load, limit, margin, passes}
-use Rattle.admission.proofs.Bounds.{Amax-zero, Amax-le, row-good, load-small, limit-small}
+use Rattle.admission.proofs.Bounds.{Amax-zero, Amax-le, row-good, limit-small}
 use Rattle.admission.proofs.Laws.{load-all, marginsTo, margins-none, margins-more}
 use Rattle.admission.proofs.Turns.{Measured, Loading, measured, b-le, s-le, limit-is, loading-none, loading-more}
 use borrow.Author.Needs.{needs}
@@ -114,9 +114,10 @@ load-of c =
 
 difference-requires : tie.Need-difference-requires Inv-loop2 μ-loop2 Inv-loop μ-loop
 difference-requires c κs =
-    let t = c .before .before .before .before .before .before in
-    let o = t .before in
-    (rw (limit-of c) (limit-small (o .before .before .before .pre) (o .loop .k) (t .loop-test .taken)), rw (load-of c) (load-small (o .before .before .before .pre) (o .loop .k) (t .loop-test .taken)))
+    let l = c .before .before in
+    let t = l .before .before .before .before in
+    let g = t .before .before .before .before .pre in
+    (rw (limit-of c) (limit-small g (t .before .loop .k) (t .loop-test .taken)), omega (arith, l .loop2 .inv .1 .small, g .few))
 
 mul-margins : tie.Need-mul-margins Inv-loop2 μ-loop2 Inv-loop μ-loop
 mul-margins c = search needs

@@ -28,13 +28,13 @@ use denote.Triple.Spec.{tripleOf}
 use denote.Triple.Table.{entered, cited}
 use Rattle.table.specs.declared.Platform.{Platform}
 use Rattle.table.specs.Limits.{mostTasks}
-use Rattle.gorsetumble.specs.Lent.{tableOf}
+use Rattle.table.specs.Tasks.{tableOf}
 use Rattle.gorsetumble.specs.Code.Rows.{noRows}
-use Rattle.gorsetumble.proofs.Data.{row, val, vals, Fits, told, made, typed}
+use Rattle.lent.proofs.Data.{row, val, vals, Fits, told, made, typed}
 use Rattle.gorsetumble.proofs.Fill.{at-first}
 use Rattle.gorsetumble.proofs.OfRows.{Entry, Post, meets-by}
 use Rattle.gorsetumble.proofs.Tables.{platform, task, table, Rows}
-use Rattle.gorsetumble.proofs.Walk.{calls-plain}
+use Rattle.lent.proofs.Walk.{calls-plain}
 use Rattle.gorsetumble.proofs.kept as kept
 use Rattle.gorsetumble.proofs.kept.Symbol as kept-def
 use Rattle.gorsetumble.proofs.kept.Symbol.{name as #kept}

@@ -40,16 +40,18 @@ use denote.Triple.Walked.{says, Stays, stay-none, walkOf, goes-none, ends-at, wa
 use Rattle.table.specs.declared.Platform.{Platform}
 use Rattle.table.specs.declared.Task.{Task}
 use Rattle.table.specs.declared.Refusal.{Refusal}
+use Rattle.table.specs.Tasks.{tableOf}
 use Rattle.machine.specs.declared.Machine.{Machine}
 use Rattle.machine.specs.declared.SetUp.{SetUp}
 use Rattle.machine.specs.Fresh.{setUp}
 use Rattle.machine.proofs.SetUp as S′
-use Rattle.gorsetumble.specs.Lent.{tableOf}
-use Rattle.gorsetumble.proofs.Data.{Data, row, val, vals, Fits, told, made, typed, two, both-fit}
+use Rattle.lent.proofs.Data.{Data, row, val, vals, Fits, told, made, typed, two, both-fit}
 use Rattle.gorsetumble.proofs.First.{first-length, first-same}
-use Rattle.gorsetumble.proofs.Lends.{ref-to, lends, tasks, all-vals, lends-local, local-back, lends-rows, rows-back}
-use Rattle.gorsetumble.proofs.Tables.{platform, task, refusal, machine, lent}
-use Rattle.gorsetumble.proofs.Walk.{calls-told, calls-plain}
+use Rattle.lent.proofs.Lends.{ref-to, lends, lends-local, local-back}
+use Rattle.gorsetumble.proofs.Lends.{tasks, all-vals, lends-rows, rows-back}
+use Rattle.lent.proofs.Machines.{machine}
+use Rattle.gorsetumble.proofs.Tables.{platform, task, refusal, lent}
+use Rattle.lent.proofs.Walk.{calls-told, calls-plain}
 use Rattle.gorsetumble.proofs.gorsetumble_set_up as set-up
 use Rattle.gorsetumble.proofs.gorsetumble_set_up.Symbol as set-up-def
 use Rattle.gorsetumble.proofs.gorsetumble_set_up.Symbol.{name as #set-up}

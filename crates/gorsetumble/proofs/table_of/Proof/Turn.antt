@@ -37,15 +37,14 @@ use Rattle.table.specs.declared.Platform.{Platform}
 use Rattle.table.specs.declared.Task.{Task}
 use Rattle.table.specs.declared.Table.{Table}
 use Rattle.table.specs.Limits.{mostTasks}
-use Rattle.table.specs.Tasks.{noTask}
+use Rattle.table.specs.Tasks.{noTask, tableOf}
 use Rattle.table.proofs.Task.Laws as task-laws
-use Rattle.gorsetumble.specs.Lent.{tableOf}
 use Rattle.gorsetumble.specs.Code.Rows.{withRow}
-use Rattle.gorsetumble.proofs.Data.{row, val, vals, Fits, told, made, typed}
+use Rattle.lent.proofs.Data.{row, val, vals, Fits, told, made, typed}
 use Rattle.gorsetumble.proofs.Fill.{after, one-more, at-last}
 use Rattle.gorsetumble.proofs.OfRows.{Post, exits}
 use Rattle.gorsetumble.proofs.Tables.{platform, task, table, Rows, lent}
-use Rattle.gorsetumble.proofs.Walk.{calls-plain}
+use Rattle.lent.proofs.Walk.{calls-plain}
 use Rattle.gorsetumble.proofs.with_row as with-row
 use Rattle.gorsetumble.proofs.with_row.Symbol.{name as #with-row}
 use Rattle.gorsetumble.proofs.table_of.Code.Mir as Mir

@@ -12,7 +12,7 @@ use Rattle.machine.specs.declared.Ticked.{Ticked}
 use Rattle.machine.specs.Fresh.{setUp}
 use Rattle.machine.specs.Tick.{tick}
 use Rattle.machine.proofs.Machine.set_up.Reads as set-up
-use Rattle.ticking.proofs.tick.Reads as tick-fn
+use Rattle.lent.proofs.ticked.Reads as tick-fn
 
 pub quick-contract : (κs : Lfts 0) (t now : Table) (q : QuickAnswer) → quick.Learnt κs (t, tt) q (now, tt) → q ≡ quickAnswer t
 quick-contract κs t now q h = h

@@ -55,10 +55,9 @@ refusedAnswer refused = record { refused = refused; finished = 0; late = 0; star
 abbrev pub accepted : Machine → ℕ → ℕ → Bool
 accepted m released finished = eqb (tickRefusal m released finished .number) 0
 
-unfoldable pub tick : Machine → ℕ → ℕ → Ticked
-tick m released finished =
-    cond (accepted m released finished)
-    (record {
+abbrev pub acceptedTick : Machine → ℕ → ℕ → Ticked
+acceptedTick m released finished =
+    record {
       machine = moved m released finished;
       answer =
           record {
@@ -67,5 +66,11 @@ tick m released finished =
             late = lateSet m (finish finished (passed m));
             started = startedSet (readied m released finished) (moved m released finished);
           };
-    })
-    (record { machine = m; answer = refusedAnswer (tickRefusal m released finished) })
+    }
+
+abbrev pub refusedTick : Machine → Refusal → Ticked
+refusedTick m refused = record { machine = m; answer = refusedAnswer refused }
+
+unfoldable pub tick : Machine → ℕ → ℕ → Ticked
+tick m released finished =
+    cond (accepted m released finished) (acceptedTick m released finished) (refusedTick m (tickRefusal m released finished))

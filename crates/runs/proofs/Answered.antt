@@ -21,8 +21,7 @@ use Rattle.sets.proofs.Wheres.{where-lt}
 use Rattle.machine.specs.declared.Machine.{Machine}
 use Rattle.machine.specs.declared.Ticked.{Ticked}
 use Rattle.machine.specs.Conditions.{goodState}
-use Rattle.machine.specs.Steps.{passed, finish, lateSet}
-use Rattle.machine.specs.Tick.{tickRules, firstGiven, tickRefusal, readied, moved, startedSet, refusedAnswer, accepted, tick}
+use Rattle.machine.specs.Tick.{tickRules, firstGiven, tickRefusal, readied, accepted, acceptedTick, refusedTick, tick}
 use Rattle.machine.proofs.Jobs.{finished-table, readied-table}
 use Rattle.machine.proofs.Queue.{step-table}
 use Rattle.readers.specs.declared.Tick.{Tick}
@@ -89,19 +88,7 @@ unfolding tick
 tick-small m k h = by (accepted m (k .released) (k .finished)) refl
   where
     by : (b : Bool) → accepted m (k .released) (k .finished) ≡ b
-        → Small
-        (cond b
-        (record {
-          machine = moved m (k .released) (k .finished);
-          answer =
-              record {
-                refused = tickRefusal m (k .released) (k .finished);
-                finished = k .finished;
-                late = lateSet m (finish (k .finished) (passed m));
-                started = startedSet (readied m (k .released) (k .finished)) (moved m (k .released) (k .finished));
-              };
-        })
-        (record { machine = m; answer = refusedAnswer (tickRefusal m (k .released) (k .finished)) }))
+        → Small (cond b (acceptedTick m (k .released) (k .finished)) (refusedTick m (tickRefusal m (k .released) (k .finished))))
     by true e =
         let few : m .table .n ≤ mostTasks = good-few m (accepted-good m (k .released) (k .finished) e) in
         let number = number-most m (k .released) (k .finished) in

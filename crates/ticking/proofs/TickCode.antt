@@ -17,7 +17,7 @@ use Rattle.machine.specs.Jobs.{noJob, job}
 use Rattle.machine.specs.Conditions.{goodState}
 use Rattle.machine.specs.Steps.{passed, finish, lateSet}
 use Rattle.ticking.specs.Code.Passes.{walkStart}
-use Rattle.machine.specs.Tick.{tickRefusal, readied, moved, startedSet, accepted, refusedAnswer, tick}
+use Rattle.machine.specs.Tick.{tickRefusal, readied, moved, startedSet, accepted, acceptedTick, refusedTick, tick}
 use Rattle.machine.proofs.Jobs.{machineOf}
 use Rattle.ticking.proofs.TickJudge.{Accepts, accepts}
 use Rattle.ticking.proofs.TickLook.{lookTo, Looked}
@@ -64,18 +64,7 @@ module _ (m : Machine) (released finished : ℕ) where
       where
         by : (b : Bool) → accepted m released finished ≡ b
             → coded (tickRefusal m released finished) b
-            ≡ cond b
-            (record {
-              machine = moved m released finished;
-              answer =
-                  record {
-                    refused = tickRefusal m released finished;
-                    finished = finished;
-                    late = lateSet m (finish finished (passed m));
-                    started = startedSet (readied m released finished) (moved m released finished);
-                  };
-            })
-            (record { machine = m; answer = refusedAnswer (tickRefusal m released finished) })
+            ≡ cond b (acceptedTick m released finished) (refusedTick m (tickRefusal m released finished))
         by true w =
             let a = accepts m released finished rows w in
             let l = looked (a .test) in

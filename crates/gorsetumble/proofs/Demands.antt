@@ -9,7 +9,7 @@ use native.Mathlib.Decide.{decLt}
 use borrow.Author.Tests.{lt-ltb, le-ltb, eqb-true, ne-eqb}
 use lib.Dec.{eqb}
 use lib.ListN.{length}
-use Rattle.maths.proofs.Tasks.{length-tabulate}
+use Rattle.maths.proofs.Padded.{length-padded}
 use Rattle.table.specs.declared.Platform.{Platform}
 use Rattle.table.specs.declared.Task.{Task}
 use Rattle.table.specs.declared.Table.{Table}
@@ -31,7 +31,7 @@ use Rattle.machine.proofs.StateFresh.{set-up-fresh, set-up-forgets, set-up-refu
 use Rattle.promise.specs.Promise.{Admitted, Kept}
 use Rattle.promise.proofs.Demand3 as promise
 use Rattle.promise.proofs.Test.{not-refused}
-use Rattle.gorsetumble.specs.Lent.{tableOf}
+use Rattle.table.specs.Tasks.{noTask, tableOf}
 use Rattle.gorsetumble.specs.Demands.{Demand1, Demand2, Demand3, since}
 
 pub set-up-number : (m : Machine) (t : Table) → setUp m t .refused .number ≡ refusal t .number
@@ -95,7 +95,7 @@ demand-2 = record { none = no-rows-refused; tooMany = too-many-refused; agree = 
 pub demand-3 : Demand3
 demand-3 m p rows v reports =
     let t : Table = tableOf p rows in
-    let a : Admitted t = record { whole = length-tabulate _ mostTasks; verdict = v } in
+    let a : Admitted t = record { whole = length-padded noTask mostTasks rows; verdict = v } in
     let fits : refusal t .number ≡ 0 = not-refused t a in (
       set-up-number m t ∙ fits,
       subst (λ (s : Machine). Kept t (since s reports)) (sym (ap (λ (s : SetUp). s .machine) (set-up-fresh m t fits))) (promise.demand-3 t a reports),

@@ -17,7 +17,7 @@ use Rattle.machine.specs.declared.SetUp.{SetUp}
 use Rattle.machine.specs.declared.Ticked.{Ticked}
 use Rattle.machine.specs.Fresh.{setUp}
 use Rattle.machine.specs.Tick.{tick}
-use Rattle.gorsetumble.specs.Lent.{tableOf}
+use Rattle.table.specs.Tasks.{tableOf}
 
 module _ (p : Platform) (rows : List Task) where
   pub table-of-determined : (r s : Table) → r ≡ tableOf p rows → s ≡ tableOf p rows → r ≡ s

@@ -9,13 +9,13 @@ use borrow.Author.Tests.{le-leb, lt-leb}
 use lib.Dec.{leb}
 use lib.ListN.{length, getD, List·getD-eq-default}
 use Rattle.maths.specs.Tasks.{tabulate, entry}
-use Rattle.maths.proofs.Arrays.{upTo, tabulate-ext, up-none, up-more, up-most}
+use Rattle.maths.proofs.Arrays.{upTo, tabulate-ext, padded-entries, up-none, up-more, up-most}
 use Rattle.table.specs.declared.Platform.{Platform}
 use Rattle.table.specs.declared.Task.{Task}
 use Rattle.table.specs.declared.Table.{Table}
 use Rattle.table.specs.Limits.{mostTasks}
-use Rattle.table.specs.Tasks.{noTask}
-use Rattle.gorsetumble.specs.Lent.{tableOf, noRows, withRow}
+use Rattle.table.specs.Tasks.{noTask, tableOf}
+use Rattle.gorsetumble.specs.Lent.{noRows, withRow}
 
 abbrev with-rows : Platform → List Task → List Task → Table
 with-rows p ys rows = record { platform = p; n = length ys; rows = rows }
@@ -45,4 +45,4 @@ module _ (p : Platform) (ys : List Task) where
           ]
 
   pub at-last : after (min (length ys) mostTasks) ≡ tableOf p ys
-  at-last = ap (with-rows p ys) (up-most mostTasks (λ k. entry ys k noTask) (λ k. noTask) (length ys) ∙ rows-end)
+  at-last = ap (with-rows p ys) (up-most mostTasks (λ k. entry ys k noTask) (λ k. noTask) (length ys) ∙ rows-end ∙ sym (padded-entries noTask mostTasks ys))

@@ -20,7 +20,7 @@ use Rattle.machine.specs.Jobs.{job}
 use Rattle.machine.specs.Tick.{refusedAnswer, tick}
 use Rattle.promise.specs.Sequences.{Report, Sequence, steps}
 use Rattle.promise.specs.Promise.{Kept}
-use Rattle.gorsetumble.specs.Lent.{tableOf}
+use Rattle.table.specs.Tasks.{tableOf}
 
 pub record Demand1 : Type 0 where
   -- A set-up that is refused leaves the machine as it was lent.

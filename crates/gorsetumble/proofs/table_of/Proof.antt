@@ -28,7 +28,8 @@ use denote.Triple.Spec.{tripleOf}
 use denote.Triple.Table.{entered, cited}
 use Rattle.table.specs.declared.Platform.{Platform}
 use Rattle.table.specs.Limits.{mostTasks}
-use Rattle.gorsetumble.specs.Lent.{tableOf, noRows}
+use Rattle.table.specs.Tasks.{tableOf}
+use Rattle.gorsetumble.specs.Lent.{noRows}
 use Rattle.gorsetumble.proofs.Data.{row, val, vals, Fits, told, made, typed}
 use Rattle.gorsetumble.proofs.Fill.{at-first}
 use Rattle.gorsetumble.proofs.OfRows.{Entry, Post, meets-by}

@@ -44,7 +44,7 @@ use Rattle.machine.specs.declared.Machine.{Machine}
 use Rattle.machine.specs.declared.SetUp.{SetUp}
 use Rattle.machine.specs.Fresh.{setUp}
 use Rattle.machine.proofs.SetUp as S′
-use Rattle.gorsetumble.specs.Lent.{tableOf}
+use Rattle.table.specs.Tasks.{tableOf}
 use Rattle.gorsetumble.proofs.Data.{Data, row, val, vals, Fits, told, made, typed, two, both-fit}
 use Rattle.gorsetumble.proofs.First.{first-length, first-same}
 use Rattle.gorsetumble.proofs.Lends.{ref-to, lends, tasks, all-vals, lends-local, local-back, lends-rows, rows-back}

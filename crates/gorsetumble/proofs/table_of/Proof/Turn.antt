@@ -37,9 +37,9 @@ use Rattle.table.specs.declared.Platform.{Platform}
 use Rattle.table.specs.declared.Task.{Task}
 use Rattle.table.specs.declared.Table.{Table}
 use Rattle.table.specs.Limits.{mostTasks}
-use Rattle.table.specs.Tasks.{noTask}
+use Rattle.table.specs.Tasks.{noTask, tableOf}
 use Rattle.table.proofs.Task.Laws as task-laws
-use Rattle.gorsetumble.specs.Lent.{tableOf, withRow}
+use Rattle.gorsetumble.specs.Lent.{withRow}
 use Rattle.gorsetumble.proofs.Data.{row, val, vals, Fits, told, made, typed}
 use Rattle.gorsetumble.proofs.Fill.{after, one-more, at-last}
 use Rattle.gorsetumble.proofs.OfRows.{Post, exits}

@@ -74,10 +74,6 @@ number-at-bounded most text at = number-bounded most at none (drop at text) (ome
 pub number-inside : (most : ℕ) (text : List ℕ) (at : ℕ) → at ≤ length text → numberAt most text at .next ≤ length text
 number-inside most text at h = omega (arith, number-at-bounded most text at .far, length-drop at text)
 
-pub ending-more : (left : ℕ) → (left ≡ 0 → ⊥) → ending left ≡ comma ∷ []
-ending-more zero h = absurd (h refl)
-ending-more (suc left) h = refl
-
 module _ (most : ℕ) (text : List ℕ) (at : ℕ) (word : List ℕ) where
   pub cell-none : numberAt most text at .next ≡ at → cellAt most text at word ≡ record { value = 0; next = at; whole = false }
   unfolding cellAt

@@ -115,17 +115,18 @@ fn with_digit(most: u64, v: u64, c: u8) -> Grown
     if 57 < c {
         return Grown::not();
     }
-    let d = (c - 48) as u64;
-    if most < d {
+    // Asked so that nothing passes 64 bits; the quotient is the same for every digit of a number.
+    if most / 10 < v {
         return Grown::not();
     }
-    // 10 v + d above the largest, asked without passing 64 bits
-    if (most - d) / 10 < v {
+    let tens = 10 * v;
+    let d = (c - 48) as u64;
+    if most - tens < d {
         return Grown::not();
     }
     Grown {
         may: true,
-        value: 10 * v + d,
+        value: tens + d,
     }
 }
 

@@ -12,7 +12,7 @@ use Rattle.table.specs.Limits.{mostTasks}
 use Rattle.table.specs.Refused.{noRefusal}
 use Rattle.table.specs.Tasks.{noTask, tableOf}
 use Rattle.readers.specs.Inputs.{platformRead, tableRead}
-use Rattle.writers.specs.Outputs.{platformRow, taskRow, tickRows, platformText, tasksText, ticksText}
+use Rattle.writers.specs.Outputs.{platformRow, taskRow, tickRows, platformText, tasksText, reportsText}
 
 -- numbers of 32 bits, as the fields of a platform and of a table's rows are
 abbrev pub NarrowPlatform : Platform → Type 0
@@ -36,13 +36,13 @@ pub record WritesBack : Type 0 where
   -- each writes a good text of its form
   pub platformGood : (p : Platform) → NarrowPlatform p → GoodText platformForm (platformText p)
   pub tasksGood : (t : Table) → NarrowRows t → GoodText tasksForm (tasksText t)
-  pub ticksGood : (released finished : List ℕ) → NarrowTicks released finished → GoodText ticksForm (ticksText released finished)
+  pub ticksGood : (released finished : List ℕ) → NarrowTicks released finished → GoodText ticksForm (reportsText released finished)
   -- the readers give back what was written
   pub platformBack : (p : Platform) → NarrowPlatform p → platformRead (read platformForm (platformText p)) ≡ record { refused = noRefusal; platform = p }
   pub tasksBack : (t : Table) → NarrowRows t
       → tableRead (t .platform) (read tasksForm (tasksText t)) ≡ record { refused = noRefusal; table = trimmed t }
   pub ticksBack : (released finished : List ℕ) → NarrowTicks released finished
-      → read ticksForm (ticksText released finished) ≡ found (tickRows released finished)
+      → read ticksForm (reportsText released finished) ≡ found (tickRows released finished)
   -- of at most 32 tasks that is the table's n and first n rows, and the table itself where entries past n are zero
   pub kept : (t : Table) → length (t .rows) ≡ mostTasks → t .n ≤ mostTasks
       → (trimmed t .n ≡ t .n) × (take (t .n) (trimmed t .rows) ≡ take (t .n) (t .rows))

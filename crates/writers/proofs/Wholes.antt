@@ -17,7 +17,8 @@ use Rattle.writers.specs.declared.Room.{Room}
 use Rattle.writers.specs.declared.Written.{Written}
 use Rattle.writers.specs.declared.TextsWritten.{TextsWritten}
 use Rattle.writers.specs.Outputs.{listing}
-use Rattle.writers.specs.Written.{tooShort, written, leaves, Wrote, bothFit, WroteBoth, Put, roomFor}
+use Rattle.writers.specs.Written.{tooShort, written, leaves, Wrote, bothFit, WroteBoth, roomFor}
+use Rattle.writers.specs.Code.Put.{Put}
 use Rattle.writers.proofs.Puts.{sets-front}
 use Rattle.writers.proofs.Rooms.{enough-is, short-is, room-more, room-stop}
 

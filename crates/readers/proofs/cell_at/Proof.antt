@@ -4,8 +4,7 @@ use native.Mathlib.Omega.{arith}
 use lib.ListN.{length}
 use Rattle.forms.specs.Forms.{ending}
 use Rattle.readers.specs.Places.{numberAt, cellAt}
-use Rattle.readers.proofs.Rows.{number-inside, cell-none, cell-some, ending-more}
-use mathlib.Core.Path.{_≡_, refl, sym, ap, _∙_}
+use Rattle.forms.proofs.Lines.{ending-more}
 use Rattle.readers.proofs.Rows.{number-inside, cell-none, cell-some}
 use borrow.Author.Needs.{needs}
 use Rattle.readers.proofs.cell_at.Statement.{statement}

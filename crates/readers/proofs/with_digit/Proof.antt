@@ -21,9 +21,6 @@ returns-2 c =
     let args = c .before .before .before .args in
     c .not2 .ensures ∙ sym (grown-none (args .most) (args .v) (args .c) (digit-high (args .c) (omega arith)))
 
-cast-d : tie.Need-cast-d
-cast-d c = search needs
-
 not-requires-3 : tie.Need-not-requires-3
 not-requires-3 c κs = search needs
 
@@ -31,6 +28,15 @@ returns-3 : tie.Need-returns-3
 returns-3 c =
     let args = c .before .before .before .before .args in
     c .not3 .ensures ∙ sym (grown-large (args .most) (args .v) (args .c) (omega arith))
+
+mul-tens : tie.Need-mul-tens
+mul-tens c = search needs
+
+cast-d : tie.Need-cast-d
+cast-d c = search needs
+
+sub-if4 : tie.Need-sub-if4
+sub-if4 c = search needs
 
 not-requires-4 : tie.Need-not-requires-4
 not-requires-4 c κs = search needs
@@ -40,11 +46,8 @@ returns-4 c =
     let args = c .before .before .before .before .before .args in
     c .not4 .ensures ∙ sym (grown-large (args .most) (args .v) (args .c) (omega arith))
 
-mul-t7 : tie.Need-mul-t7
-mul-t7 c = search needs
-
-add-t8 : tie.Need-add-t8
-add-t8 c = search needs
+add-t7 : tie.Need-add-t7
+add-t7 c = search needs
 
 returns-5 : tie.Need-returns-5
 returns-5 c =
@@ -59,11 +62,12 @@ with-digit-spec =
     returns
     not-requires-2
     returns-2
-    cast-d
     not-requires-3
     returns-3
+    mul-tens
+    cast-d
+    sub-if4
     not-requires-4
     returns-4
-    mul-t7
-    add-t8
+    add-t7
     returns-5)

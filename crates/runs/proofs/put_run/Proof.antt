@@ -7,7 +7,7 @@ use native.Mathlib.Omega.{arith}
 use denote.Ref.{now}
 use lib.ListN.{length, take}
 use Rattle.forms.specs.Forms.{line}
-use Rattle.writers.specs.Written.{Put}
+use Rattle.writers.specs.Code.Put.{Put}
 use Rattle.writers.proofs.Added.{put-added}
 use Rattle.writers.proofs.Sequences.{Putting, putting-start, putting-more, putting-end, putting-room, put-then, put-room, put-length, first-fits}
 use Rattle.runs.specs.Code.Runs.{ticksIn}

@@ -3,7 +3,7 @@ pub mod lending;
 pub mod texting;
 
 ghost use mathlib.Core.Path.{_≡_};
-ghost use Prim.Native.Nat.{_<_, min};
+ghost use Prim.Native.Nat.{_<_};
 ghost use Rattle.table.specs.Limits.{mostTasks};
 ghost use Rattle.table.specs.Tasks.{tableOf};
 ghost use Rattle.admission.specs.Answers.{fullAnswer, quickAnswer};
@@ -18,13 +18,6 @@ use table::Platform;
 use table::Refusal;
 use table::Table;
 use table::Task;
-
-// How many of n rows a table keeps.
-fn kept(n: usize) -> usize
-    ensures { λ r. ⌜ r ≡ min n mostTasks ⌝ }
-{
-    if n < Table::MOST { n } else { Table::MOST }
-}
 
 // A table that says n rows and has none.
 fn no_rows(platform: Platform, n: usize) -> Table
@@ -51,7 +44,7 @@ pub fn table_of(platform: Platform, rows: &[Task]) -> Table
     ensures { λ r. ⌜ r ≡ tableOf platform (now (rows .entry)) ⌝ }
 {
     let n = rows.len();
-    let m = kept(n);
+    let m = Table::entries(n);
     let mut t = no_rows(platform, n);
     let mut i: usize = 0;
     while i < m {

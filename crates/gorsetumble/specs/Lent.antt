@@ -2,7 +2,7 @@
 -- Its count is the whole row's, so that 33 rows earn refusal 1 and are never cut to 32.
 use Prim.Native.Nat.{ℕ}
 use mathlib.Core.List.{List}
-use lib.ListN.{length, set}
+use lib.ListN.{length}
 use Rattle.maths.specs.Tasks.{tabulate, entry}
 use Rattle.table.specs.declared.Platform.{Platform}
 use Rattle.table.specs.declared.Task.{Task}
@@ -13,9 +13,9 @@ use Rattle.table.specs.Tasks.{noTask}
 abbrev pub tableOf : Platform → List Task → Table
 tableOf platform rows = record { platform = platform; n = length rows; rows = tabulate mostTasks (λ k. entry rows k noTask) }
 
--- a table that says n rows and has none, and a table with a row put in
-abbrev pub noRows : Platform → ℕ → Table
-noRows platform n = record { platform = platform; n = n; rows = tabulate mostTasks (λ k. noTask) }
+-- no row at all, and a table of its parts
+abbrev pub noRows : List Task
+noRows = tabulate mostTasks (λ k. noTask)
 
-abbrev pub withRow : Table → ℕ → Task → Table
-withRow t i row = record { platform = t .platform; n = t .n; rows = set (t .rows) i row }
+abbrev pub withRows : Platform → ℕ → List Task → Table
+withRows platform n rows = record { platform = platform; n = n; rows = rows }

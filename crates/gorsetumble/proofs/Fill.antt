@@ -14,7 +14,8 @@ use Rattle.table.specs.declared.Platform.{Platform}
 use Rattle.table.specs.declared.Task.{Task}
 use Rattle.table.specs.Limits.{mostTasks}
 use Rattle.table.specs.Tasks.{noTask}
-use Rattle.gorsetumble.specs.Lent.{tableOf, noRows, withRows}
+use Rattle.gorsetumble.specs.Lent.{tableOf}
+use Rattle.gorsetumble.specs.Code.Rows.{noRows, withRows}
 
 module _ (ys : List Task) where
   abbrev pub after : ℕ → List Task

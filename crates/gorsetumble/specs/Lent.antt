@@ -1,6 +1,5 @@
 -- A lent row of task records as a table (document 01, "The task table comes as a lent row of task records").
 -- Its count is the whole row's, so that 33 rows earn refusal 1 and are never cut to 32.
-use Prim.Native.Nat.{ℕ}
 use mathlib.Core.List.{List}
 use lib.ListN.{length}
 use Rattle.maths.specs.Tasks.{tabulate, entry}
@@ -12,10 +11,3 @@ use Rattle.table.specs.Tasks.{noTask}
 
 abbrev pub tableOf : Platform → List Task → Table
 tableOf platform rows = record { platform = platform; n = length rows; rows = tabulate mostTasks (λ k. entry rows k noTask) }
-
--- no row at all, and a table of its parts
-abbrev pub noRows : List Task
-noRows = tabulate mostTasks (λ k. noTask)
-
-abbrev pub withRows : Platform → ℕ → List Task → Table
-withRows platform n rows = record { platform = platform; n = n; rows = rows }

@@ -40,7 +40,8 @@ use Rattle.table.specs.declared.Task.{Task}
 use Rattle.table.specs.Limits.{mostTasks}
 use Rattle.table.specs.Tasks.{noTask}
 use Rattle.table.proofs.Task.Laws as task-laws
-use Rattle.gorsetumble.specs.Lent.{tableOf, withRows}
+use Rattle.gorsetumble.specs.Lent.{tableOf}
+use Rattle.gorsetumble.specs.Code.Rows.{withRows}
 use Rattle.lent.proofs.Data.{row, val, vals, Fits, told, made, typed}
 use Rattle.gorsetumble.proofs.Fill.{after, one-more, at-last}
 use Rattle.gorsetumble.proofs.Lends.{tasks, all-vals, row-out, row-in}

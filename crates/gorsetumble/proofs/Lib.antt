@@ -10,5 +10,6 @@ pub mod Lends
 pub mod OfRows
 pub mod Renewed
 pub mod Rows
+pub mod Stores
 pub mod Tables
 pub mod RenewedTexts

@@ -25,6 +25,7 @@ use Rattle.readers.specs.declared.Tick.{Tick}
 use Rattle.readers.specs.Inputs.{noPlatform}
 use Rattle.texts.specs.Given.{given}
 use Rattle.texts.specs.Admit.{admitText}
+use Rattle.texts.specs.Verdict.{verdict}
 use Rattle.runs.specs.Ticks.{tickWith, ticksText}
 
 -- the bytes of a text, each of whose lines ends in CR LF
@@ -46,6 +47,8 @@ pub data Asked : Type 0 where
   admit : Files → Asked
   -- what "ticks" writes, with these lines on standard input
   ticks : Files → List String → Asked
+  -- the number that the board gets
+  board : Files → Asked
   -- verdict (1 for admitted), first task that does not pass, and the margin of each task
   answer : Files → Asked
   -- B of task k
@@ -88,6 +91,7 @@ after m (x ∷ xs) = after (tickWith m x .machine) xs
 abbrev pub answered : Asked → Answered
 answered (admit f) = written (admitText true (csv (f .platform)) true (csv (f .tasks)))
 answered (ticks f xs) = written (ticksText true (csv (f .platform)) true (csv (f .tasks)) true (csv xs))
+answered (board f) = numbers ((pos (verdict (csv (f .platform)) (csv (f .tasks))) ∷ []) ∷ [])
 answered (answer f) = numbers (answerRow (tableIn f .n) (fullAnswer (tableIn f)) ∷ [])
 answered (blocks f k) = numbers ((pos (B (tableIn f) k) ∷ []) ∷ [])
 answered (load2 m b a x) =
@@ -129,15 +133,18 @@ refusal2 n row = (pos n ∷ pos row ∷ []) ∷ []
 abbrev row5 : ℕ → ℕ → ℕ → ℕ → ℕ → List ℤ
 row5 refused task finished late started = pos refused ∷ pos task ∷ pos finished ∷ pos late ∷ pos started ∷ []
 
+abbrev p1 : Files
+p1 = files "2,4" ("40,50,2,1" ∷ "60,60,3,2" ∷ "80,100,4,2" ∷ [])
+
 abbrev p8 : Files
 p8 = files "3,4" ("6,6,2,1" ∷ "8,8,3,2" ∷ "9,9,2,2" ∷ "12,12,2,1" ∷ [])
 
 unfoldable pub cases : List Case
 cases =
-    writes 1
-    (admit (files "2,4" ("40,50,2,1" ∷ "60,60,3,2" ∷ "80,100,4,2" ∷ [])))
-    ("task,margin,pass" ∷ "1,232,1" ∷ "2,268,1" ∷ "3,370,1" ∷ [])
+    writes 1 (admit p1) ("task,margin,pass" ∷ "1,232,1" ∷ "2,268,1" ∷ "3,370,1" ∷ [])
+    ∷ gives 1 (board p1) (number1 0)
     ∷ gives 2 (answer (one "6,6,2,1")) (judged1 0 1 (pos 0))
+    ∷ gives 2 (board (one "6,6,2,1")) (number1 101)
     ∷ gives 3 (answer (one "7,7,2,1")) (judged1 1 0 (pos 1))
     ∷ gives 4 (answer (one "5,5,2,1")) (judged1 0 1 (negsuc 0))
     ∷ gives 5 (answer (one "2,2,2,1")) (judged1 0 1 (negsuc 3))
@@ -165,6 +172,7 @@ cases =
     (row5 0 0 0 0 1 ∷ row5 13 2 0 0 0 ∷ [])
     ∷ gives 0 (refusalOf (files "1,1" (replicate 32 "1,1,1,1"))) (refusal2 0 0)
     ∷ gives 0 (refusalOf (files "1,1" (replicate 33 "1,1,1,1"))) (refusal2 1 0)
+    ∷ gives 0 (board (files "1,1" (replicate 33 "1,1,1,1"))) (number1 1)
     ∷ gives 0 (refusalOf (files "1,64" ("1,1,1,1" ∷ []))) (refusal2 0 0)
     ∷ gives 0 (refusalOf (files "1,65" ("1,1,1,1" ∷ []))) (refusal2 3 0)
     ∷ gives 0 (refusalOf (one "1,65535,1,1")) (refusal2 0 0)

@@ -1,24 +1,22 @@
 -- The board's own path: the verdict means what it should, and after a 0 the machine that the same texts set up keeps the promise.
 use Prim.Native.Nat.{ℕ, zero, suc, _+_, _≤_}
-use mathlib.Core.Path.{_≡_, refl, sym, ap, _∙_, subst}
+use mathlib.Core.Path.{_≡_, refl, sym, ap, _∙_}
 use mathlib.Core.Bool.{Bool, true, false, cond}
 use mathlib.Core.List.{List, map}
-use native.Mathlib.Nat.{le-trans}
 use native.Mathlib.Omega.{arith}
-use borrow.Author.Tests.{eq-eqb, ne-eqb, eqb-true, eqb-false, le-leb, lt-leb}
+use borrow.Author.Tests.{eq-eqb, ne-eqb, le-leb, lt-leb}
 use lib.Dec.{eqb}
 use lib.ListN.{length}
 use Rattle.maths.proofs.Padded.{length-padded}
 use Rattle.forms.specs.Forms.{Form, platformForm, tasksForm, GoodText}
-use Rattle.forms.specs.Reads.{Answer, found, refused, Reads}
+use Rattle.forms.specs.Reads.{Answer, found, refused, NoText, Reads}
 use Rattle.forms.specs.Reader.{read}
-use Rattle.forms.proofs.Theorem.{reads, only}
+use Rattle.forms.proofs.Theorem.{reads, unique, only}
 use Rattle.table.specs.declared.Refusal.{Refusal}
 use Rattle.table.specs.declared.Table.{Table}
 use Rattle.table.specs.Limits.{mostTasks}
 use Rattle.table.specs.Tasks.{noTask}
 use Rattle.table.specs.Refused.{refusal, unrefused}
-use Rattle.table.proofs.Good.{good-of}
 use Rattle.table.proofs.Refusals.{refusal-carries}
 use Rattle.readers.specs.Inputs.{taskOf}
 use Rattle.admission.specs.declared.QuickAnswer.{QuickAnswer}
@@ -29,12 +27,12 @@ use Rattle.admission.proofs.Answers.{first-le}
 use Rattle.machine.specs.declared.Machine.{Machine}
 use Rattle.machine.specs.Fresh.{setUp}
 use Rattle.texts.specs.Given.{given}
-use Rattle.texts.specs.Verdict.{numbered, numberOf, quickNumber, verdict}
-use Rattle.texts.proofs.Answers.{numbered-refused, numbered-admitted, numbered-failing}
+use Rattle.texts.specs.Verdict.{numberOf, quickNumber, verdict}
+use Rattle.texts.proofs.Answers.{numbered-refused}
 use Rattle.promise.specs.Promise.{Admitted}
 use Rattle.promise.proofs.Calls.{are-steps}
 use Rattle.gorsetumble.specs.Board as board
-use Rattle.gorsetumble.specs.Board.{GoodTexts, tableIn, Means, boardsNumber, BoardsVerdict, BoardsPromise, BoardsPromiseOfCalls}
+use Rattle.gorsetumble.specs.Board.{GoodTexts, tableIn, Means, boardsNumber, BoardsVerdict, BoardsSetUp, BoardsPromise, BoardsPromiseOfCalls}
 use Rattle.gorsetumble.specs.FromTexts.{ofTable, setUpTexts}
 use Rattle.gorsetumble.proofs.Demands.{promised}
 
@@ -70,8 +68,15 @@ module _ (t : Table) where
     number-failing : (k : ℕ) → 1 ≤ k → test.firstFailing t ≡ k → quickNumber t ≡ 100 + k
     number-failing k l e = number-first ∙ rw (e, ne-eqb k 0 (λ z. omega (arith, z)))
 
-good-read : (F : Form) (bytes : List ℕ) (g : GoodText F bytes) → read F bytes ≡ found (g .0)
-good-read F bytes g = only F bytes (read F bytes) (found (g .0)) (reads F bytes) (g .1, g .2)
+module _ (F : Form) (bytes : List ℕ) where
+  good-read : (g : GoodText F bytes) → read F bytes ≡ found (g .0)
+  good-read g = only F bytes (read F bytes) (found (g .0)) (reads F bytes) (g .1, g .2)
+
+  bad-read : (offset : ℕ) → NoText F bytes offset → read F bytes ≡ refused offset
+  bad-read offset h = only F bytes (read F bytes) (refused offset) (reads F bytes) h
+
+  one-rows : (g h : GoodText F bytes) → g .0 ≡ h .0
+  one-rows g h = unique F (g .0) (h .0) (g .1) (h .1) (g .2 ∙ sym (h .2))
 
 module _ (platform tasks : List ℕ) where
   verdict-of : (g : GoodTexts platform tasks) → verdict platform tasks ≡ quickNumber (tableIn g)
@@ -81,7 +86,6 @@ module _ (platform tasks : List ℕ) where
   whole : (g : GoodTexts platform tasks) → length (tableIn g .rows) ≡ mostTasks
   whole g = length-padded noTask mostTasks (map taskOf (g .1 .0))
 
-  -- what two answers of the reader mean
   means-table : (g : GoodTexts platform tasks) → Means platform tasks (quickNumber (tableIn g))
   means-table g = by (refusal t .number) refl
     where
@@ -129,8 +133,11 @@ module _ (platform tasks : List ℕ) where
   listed v (board.failing g k l m none e) =
       rw (lt-leb (100 + k) 8 (omega arith), ne-eqb (100 + k) 15 (λ z. omega (arith, z)), le-leb 101 (100 + k) (omega arith), le-leb (100 + k) (100 + mostTasks) (omega arith))
 
+  one-table : (g h : GoodTexts platform tasks) → tableIn g ≡ tableIn h
+  one-table g h = rw (one-rows platformForm platform (g .0) (h .0), one-rows tasksForm tasks (g .1) (h .1))
+
   pub boards-verdict : BoardsVerdict platform tasks
-  boards-verdict = record { listed = listed _ means; means = means; exactly = exactly }
+  boards-verdict = record { oneTable = one-table; listed = listed _ means; means = means; exactly = exactly }
 
   -- a 0 is an admitted table
   zero-means : (v : ℕ) → Means platform tasks v → v ≡ 0 → (g : GoodTexts platform tasks) × Admitted (tableIn g)
@@ -142,6 +149,15 @@ module _ (platform tasks : List ℕ) where
   set-up-of : (old : Machine) (g : GoodTexts platform tasks) → setUpTexts old platform tasks ≡ ofTable (setUp old (tableIn g))
   unfolding setUpTexts
   set-up-of old g = rw (good-read platformForm platform (g .0), good-read tasksForm tasks (g .1))
+
+  pub boards-set-up : (old : Machine) → BoardsSetUp platform tasks old
+  unfolding setUpTexts
+  boards-set-up old =
+      record {
+        platformBad = λ offset h. rw (bad-read platformForm platform offset h);
+        tasksBad = λ g offset h. rw (good-read platformForm platform g, bad-read tasksForm tasks offset h);
+        bothGood = set-up-of old;
+      }
 
 pub boards-promise : BoardsPromise
 boards-promise platform tasks z old reports =

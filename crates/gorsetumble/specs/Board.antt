@@ -6,6 +6,7 @@ use mathlib.Core.Bool.{Bool, true, _&&_, _||_}
 use mathlib.Core.List.{List}
 use lib.Dec.{leb, eqb}
 use Rattle.forms.specs.Forms.{platformForm, tasksForm, GoodText}
+use Rattle.forms.specs.Reads.{NoText}
 use Rattle.table.specs.declared.Table.{Table}
 use Rattle.table.specs.Limits.{mostTasks}
 use Rattle.table.specs.Refused.{refusal}
@@ -13,15 +14,16 @@ use Rattle.readers.specs.Inputs.{tableFrom}
 use Rattle.admission.specs.Test as test
 use Rattle.machine.specs.declared.Machine.{Machine}
 use Rattle.machine.specs.declared.Ticked.{Ticked}
+use Rattle.machine.specs.Fresh.{setUp}
 use Rattle.texts.specs.Verdict.{verdict}
 use Rattle.promise.specs.Sequences.{Report}
 use Rattle.promise.specs.Promise.{Kept}
 use Rattle.promise.specs.Calls.{Ticks, returned}
 use Rattle.gorsetumble.specs.declared.texting.TextsSetUp.{TextsSetUp}
 use Rattle.gorsetumble.specs.Demands.{since}
-use Rattle.gorsetumble.specs.FromTexts.{setUpTexts}
+use Rattle.gorsetumble.specs.FromTexts.{inPlatform, inTasks, badIn, ofTable, setUpTexts}
 
--- Both texts are good: each is the text of rows, and of no other rows.
+-- Both texts are good: each is the one good text of some rows.
 abbrev pub GoodTexts : List ℕ → List ℕ → Type 0
 GoodTexts platform tasks = GoodText platformForm platform × GoodText tasksForm tasks
 
@@ -47,9 +49,19 @@ boardsNumber v = leb v 8 || (eqb v 15 || (leb 101 v && leb v (100 + mostTasks)))
 
 -- The number that comes back is v exactly if v's meaning holds; so 0 comes back exactly if both texts are good and their table is admitted.
 pub record BoardsVerdict (platform tasks : List ℕ) : Type 0 where
+  -- two good texts say one table
+  pub oneTable : (g h : GoodTexts platform tasks) → tableIn g ≡ tableIn h
   pub listed : boardsNumber (verdict platform tasks) ≡ true
   pub means : Means platform tasks (verdict platform tasks)
   pub exactly : (v : ℕ) → Means platform tasks v → verdict platform tasks ≡ v
+
+-- What set-up from the texts does, in each case that there is: 15 with its offset and which text it is in, the platform being tried first, and the machine stays;
+-- or else what set-up does with the table that the texts say.
+pub record BoardsSetUp (platform tasks : List ℕ) (old : Machine) : Type 0 where
+  pub platformBad : (offset : ℕ) → NoText platformForm platform offset → setUpTexts old platform tasks ≡ record { refused = badIn inPlatform offset; machine = old }
+  pub tasksBad : GoodText platformForm platform → (offset : ℕ) → NoText tasksForm tasks offset
+      → setUpTexts old platform tasks ≡ record { refused = badIn inTasks offset; machine = old }
+  pub bothGood : (g : GoodTexts platform tasks) → setUpTexts old platform tasks ≡ ofTable (setUp old (tableIn g))
 
 -- After a 0, set-up from the same texts is not refused, whatever the machine was, and from there on the machine keeps the promise, demand 3, of the
 -- table that the texts say, whatever it is told.

@@ -10,12 +10,12 @@ use Rattle.maths.proofs.Determined.{determined}
 use Rattle.maths.proofs.Tasks.{lowest-le}
 use Rattle.table.specs.declared.Table.{Table}
 use Rattle.table.specs.Limits.{mostTasks}
-use Rattle.table.specs.Refused.{refusal}
+use Rattle.table.specs.Refused.{refusal, unrefused}
 use Rattle.table.proofs.Good.{good-of}
 use Rattle.admission.specs.declared.FullAnswer.{FullAnswer}
 use Rattle.admission.specs.declared.QuickAnswer.{QuickAnswer}
 use Rattle.admission.specs.Test.{passes, admitted, firstFailing}
-use Rattle.admission.specs.Answers.{accepted, fullAnswer, quickAnswer}
+use Rattle.admission.specs.Answers.{fullAnswer, quickAnswer}
 
 -- the full answer without its margins
 abbrev pub quickOf : FullAnswer → QuickAnswer
@@ -27,7 +27,7 @@ either false f g = refl
 
 pub answers-agree : (t : Table) → quickOf (fullAnswer t) ≡ quickAnswer t
 unfolding fullAnswer quickAnswer
-answers-agree t = either (accepted t) _ _
+answers-agree t = either (unrefused t) _ _
 
 pub full-determined : (t : Table) (r s : FullAnswer) → r ≡ fullAnswer t → s ≡ fullAnswer t → r ≡ s
 full-determined t = determined (fullAnswer t)
@@ -38,9 +38,9 @@ quick-determined t = determined (quickAnswer t)
 -- the first task that does not pass is a task
 pub first-le : (t : Table) → length (t .rows) ≡ mostTasks → quickAnswer t .first ≤ mostTasks
 unfolding quickAnswer
-first-le t len = by (accepted t) refl
+first-le t len = by (unrefused t) refl
   where
-    by : (b : Bool) → accepted t ≡ b
+    by : (b : Bool) → unrefused t ≡ b
         → cond {A = QuickAnswer} b (record { refused = refusal t; admitted = admitted t; first = firstFailing t }) (record { refused = refusal t; admitted = false; first = 0 }) .first ≤ mostTasks
-    by true e = le-trans (lowest-le (λ k. not (passes t k)) (t .n)) (good-of t len (eqb-true (refusal t .number) 0 e) .few)
+    by true e = le-trans (lowest-le (λ k. not (passes t k)) (t .n)) (good-of t len (eqb-true (refusal t .number) 0 e) .sizes .few)
     by false e = omega arith

@@ -4,14 +4,13 @@ use mathlib.Core.Path.{_≡_, refl}
 use native.Mathlib.Nat.{mul-le-mul, div-le-self, max-le, le-trans, lt-of-le-of-lt}
 use native.Mathlib.Omega.{arith}
 use lib.Dec.{lit<}
-use Rattle.maths.specs.Sums.{sum}
-use Rattle.maths.proofs.Sums.{sum-mono, sum-const}
 use Rattle.table.specs.declared.Task.{Task}
 use Rattle.table.specs.declared.Table.{Table}
 use Rattle.table.specs.Limits.{mostCores, mostPartitions, longestPeriod}
 use Rattle.table.specs.Tasks.{M, P, τ, D, T, C, A}
 use Rattle.table.specs.Good.{Good, GoodRow}
-use Rattle.admission.specs.Test.{S, Amax, B, interferenceIn, interference, weightOf, weight, load, limit}
+use Rattle.lives.specs.Report.{equation3, weightOf, limitOf}
+use Rattle.admission.specs.Test.{row, S, Amax, B, limit}
 
 -- the largest that a task can add to a load: 1024 × 65537 × 65535
 abbrev pub mostTerm : ℕ
@@ -21,24 +20,24 @@ pub Amax-zero : (t : Table) → Amax t 0 ≡ 0
 unfolding Amax
 Amax-zero t = refl
 
--- what one row can come to, in a window of s ticks and for a task whose B is b
-module _ {row : Task} (g : GoodRow mostPartitions row) where
-  pub jobs-le : {s : ℕ} → s ≤ longestPeriod → s / T row + 2 ≤ 65537
-  jobs-le {s} l = omega (arith, div-le-self s (T row))
+-- what one task can come to, in a window of s ticks and for a task whose B is b
+module _ {τ : Task} (g : GoodRow mostPartitions τ) where
+  pub jobs-le : {s : ℕ} → s ≤ longestPeriod → s / T τ + 2 ≤ 65537
+  jobs-le {s} l = omega (arith, div-le-self s (T τ))
 
-  pub interference-le : {s : ℕ} → s ≤ longestPeriod → interferenceIn s row ≤ 4294967295
+  pub interference-le : {s : ℕ} → s ≤ longestPeriod → equation3 s (row τ) ≤ 4294967295
   interference-le l = mul-le-mul {n₂ = 65537} {m₂ = 65535} (jobs-le l) (omega arith)
 
-  pub share-le : {m : ℕ} → m ≤ mostCores → m * A row ≤ 1024
+  pub share-le : {m : ℕ} → m ≤ mostCores → m * A τ ≤ 1024
   share-le l = mul-le-mul {n₂ = 16} {m₂ = 64} l (g .room)
 
-  pub weight-le : {m b : ℕ} → m ≤ mostCores → b ≤ 65 → weightOf m b (A row) ≤ 1024
+  pub weight-le : {m b : ℕ} → m ≤ mostCores → b ≤ 65 → weightOf m b (A τ) ≤ 1024
   weight-le l h = max-le (omega arith) (share-le l)
 
-  pub term-le : {m b s : ℕ} → m ≤ mostCores → b ≤ 65 → s ≤ longestPeriod → weightOf m b (A row) * interferenceIn s row ≤ mostTerm
+  pub term-le : {m b s : ℕ} → m ≤ mostCores → b ≤ 65 → s ≤ longestPeriod → weightOf m b (A τ) * equation3 s (row τ) ≤ mostTerm
   term-le l h w = mul-le-mul {n₂ = 1024} {m₂ = 4294967295} (weight-le l h) (interference-le w)
 
-pub limit-le : {m b s : ℕ} → m ≤ mostCores → b ≤ 65 → s ≤ longestPeriod → m * b * s ≤ 68156400
+pub limit-le : {m b s : ℕ} → m ≤ mostCores → b ≤ 65 → s ≤ longestPeriod → limitOf m b s ≤ 68156400
 limit-le l h w = mul-le-mul {n₂ = 1040} {m₂ = 65535} (mul-le-mul {n₂ = 16} {m₂ = 65} l h) w
 
 module _ {t : Table} (g : Good t) where
@@ -60,7 +59,7 @@ module _ {t : Table} (g : Good t) where
         runs = r .runs;
         slack = r .slack;
         deadline = r .deadline;
-        room = le-trans (r .room) (g .partitions);
+        room = le-trans (r .room) (g .sizes .partitions);
       }
 
   module _ (k : ℕ) (lk : k < t .n) where
@@ -68,19 +67,8 @@ module _ {t : Table} (g : Good t) where
     S-le = let r = g .row k lk in omega arith
 
     pub B-le : B t (suc k) ≤ 65
-    B-le = omega (arith, g .partitions)
-
-    pub load-small : load t (suc k) < 2 ^ 62
-    unfolding load interference
-    load-small =
-        omega (
-          arith,
-          g .few,
-          sum-const mostTerm (t .n),
-          sum-mono (λ i. weight t (suc k) (suc i) * interference t (suc k) (suc i)) (λ i. mostTerm) (t .n)
-              (λ i l. term-le (row-good i l) (g .cores) B-le S-le),
-        )
+    B-le = omega (arith, g .sizes .partitions)
 
     pub limit-small : limit t (suc k) < 2 ^ 62
     unfolding limit
-    limit-small = lt-of-le-of-lt (limit-le (g .cores) B-le S-le) (lit< tt)
+    limit-small = lt-of-le-of-lt (limit-le (g .sizes .cores) B-le S-le) (lit< tt)

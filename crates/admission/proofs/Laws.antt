@@ -1,11 +1,11 @@
 -- Laws of the test's definitions, for what stands on them.
-use Prim.Native.Nat.{ℕ, zero, suc, _+_, _-_, _*_, _/_, _<_, _≤_}
+use Prim.Native.Nat.{ℕ, zero, suc, _+_, _-_, _*_, _<_, _≤_}
 use mathlib.Core.Path.{_≡_, refl, sym, _∙_, ap}
 use mathlib.Core.Bool.{Bool, true, false, cond, not}
 use mathlib.Core.List.{List}
 use mathlib.Core.Logic.{_≢_}
 use native.Mathlib.Decide.{decLt}
-use native.Mathlib.Nat.{add-zero, mul-le-mul-right, le-div-iff-mul-le, div-add-mod'}
+use native.Mathlib.Nat.{add-zero}
 use native.Mathlib.Omega.{arith}
 use lib.IntN.{ℤ, pos, negsuc, _-ℤ_, subℕ}
 use lib.Dec.{ltb, eqb, leb}
@@ -17,8 +17,8 @@ use Rattle.maths.specs.Tasks.{tabulate}
 use Rattle.maths.proofs.Tasks.{every-lowest, set-tabulate}
 use Rattle.table.specs.declared.Table.{Table}
 use Rattle.table.specs.Limits.{mostTasks}
-use Rattle.table.specs.Tasks.{τ, T, C, A}
-use Rattle.admission.specs.Test.{S, Amax, less, margin, above0, passes, weight, load, limit, interference, admitted, firstFailing}
+use Rattle.table.specs.Tasks.{τ, A}
+use Rattle.admission.specs.Test.{Amax, less, margin, above0, passes, weight, load, limit, interference, admitted, firstFailing}
 
 -- no task of 1 to k asks for more than Amax of k
 pub Amax-over : (t : Table) (k i : ℕ) → i < k → A (τ t (suc i)) ≤ Amax t k
@@ -52,15 +52,6 @@ passes-is t k = above0-less (limit t k) (load t k)
 -- admitted is that no task fails
 pub admitted-is : (t : Table) → admitted t ≡ eqb (firstFailing t) 0
 admitted-is t = every-lowest (passes t) (t .n)
-
-div-mono : (a b m : ℕ) → 0 < m → a ≤ b → a / m ≤ b / m
-div-mono a b m h l = le-div-iff-mul-le h .1 (omega (arith, div-add-mod' a m))
-
--- a longer slack meets no less of one task's interference
-pub interference-mono : (t t′ : Table) (k k′ i i′ : ℕ) → τ t i ≡ τ t′ i′ → 0 < T (τ t i) → S t k ≤ S t′ k′ → interference t k i ≤ interference t′ k′ i′
-unfolding interference
-interference-mono t t′ k k′ i i′ same h l =
-    rw (← same) (mul-le-mul-right (C (τ t i)) (omega (arith, div-mono (S t k) (S t′ k′) (T (τ t i)) h l)))
 
 -- what the first i tasks add to the load of task k
 abbrev pub loadTo : Table → ℕ → ℕ → ℕ

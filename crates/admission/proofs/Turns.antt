@@ -7,7 +7,8 @@ use Rattle.table.specs.Limits.{longestPeriod}
 use Rattle.table.specs.Tasks.{M, P, τ, D, C, A}
 use Rattle.table.specs.Good.{Good}
 use Rattle.admission.specs.declared.Measures.{Measures}
-use Rattle.admission.specs.Test.{S, Amax, B, interferenceIn, interference, weightOf, weight, limit}
+use Rattle.lives.specs.Report.{equation3, weightOf, limitOf}
+use Rattle.admission.specs.Test.{row, S, Amax, B, interference, weight, limit}
 use Rattle.admission.proofs.Bounds.{Amax-suc, row-good, term-le, B-le, S-le, mostTerm}
 use Rattle.admission.proofs.Laws.{loadTo, load-none, load-more}
 
@@ -33,7 +34,7 @@ module _ {t : Table} (g : Good t) {k : ℕ} (l : k < t .n) {x : Measures} where
     pub s-le : x .s ≤ longestPeriod
     s-le = omega (arith, m .s, S-le g k l)
 
-    pub limit-is : M t * x .b .0 * x .s ≡ limit t (suc k)
+    pub limit-is : limitOf (M t) (x .b .0) (x .s) ≡ limit t (suc k)
     unfolding limit
     limit-is = rw (m .b, m .s)
 
@@ -41,10 +42,10 @@ module _ {t : Table} (g : Good t) {k : ℕ} (l : k < t .n) {x : Measures} where
     loading-none = record { measures = m; is = sym (load-none t (suc k)); small = omega arith }
 
   pub loading-more : {load i term : ℕ} → i < t .n → Loading t k x load i
-      → term ≡ weightOf (M t) (x .b .0) (A (τ t (suc i))) * interferenceIn (x .s) (τ t (suc i)) → Loading t k x (load + term) (i + 1)
+      → term ≡ weightOf (M t) (x .b .0) (A (τ t (suc i))) * equation3 (x .s) (row (τ t (suc i))) → Loading t k x (load + term) (i + 1)
   unfolding interference
   loading-more {load} {i} {term} h c e =
       let m = c .measures in
       let adds : term ≡ weight t (suc k) (suc i) * interference t (suc k) (suc i) = e ∙ rw (m .b, m .s) in
-      let most : term ≤ mostTerm = rw e (term-le (row-good g i h) (g .cores) (b-le m) (s-le m)) in
+      let most : term ≤ mostTerm = rw e (term-le (row-good g i h) (g .sizes .cores) (b-le m) (s-le m)) in
       record { measures = m; is = omega (arith, load-more t (suc k) i, c .is); small = omega (arith, c .small) }

@@ -1,18 +1,26 @@
--- The second test of the report (theorem 2, equation 9), multiplied by M × B so that no fraction is left.
+-- The second test of the report, of a table: the formulas are those of `crates/lives/specs/Report.antt`, and Amax and B are section 4.2.2's.
 -- Tasks k and i are numbered from 1; the report's A, the partitions of the platform, is document 01's P.
-use Prim.Native.Nat.{ℕ, zero, suc, _+_, _-_, _*_, _/_, max}
+use Prim.Native.Nat.{ℕ, zero, suc, _+_, _-_, max}
 use mathlib.Core.Bool.{Bool, not}
 use lib.IntN.{ℤ, pos, _-ℤ_}
 use lib.Signed.{ltZ}
-use Rattle.maths.specs.Sums.{Σ}
 use Rattle.maths.specs.Tasks.{every, lowest}
 use Rattle.table.specs.declared.Task.{Task}
 use Rattle.table.specs.declared.Table.{Table}
 use Rattle.table.specs.Tasks.{M, P, τ, D, T, C, A}
+use Rattle.lives.specs.Report.{Row, slack, interferenceOf, weightOf, limitOf}
+pub use Rattle.lives.specs.Report.{loadOf}
 
--- slack S_k = D_k − C_k (section 3.2)
+-- what the report says of a task, and of the tasks of a table
+abbrev pub row : Task → Row
+row τ = record { D = D τ; T = T τ; C = C τ; A = A τ }
+
+abbrev pub rows : Table → ℕ → Row
+rows t k = row (τ t k)
+
+-- slack S_k
 abbrev pub S : Table → ℕ → ℕ
-S t k = D (τ t k) - C (τ t k)
+S t k = slack (rows t k)
 
 -- A_k^max, the largest A_i with i ≤ k (section 4.2.2)
 unfoldable pub Amax : Table → ℕ → ℕ
@@ -23,21 +31,9 @@ Amax t (suc k) = max (Amax t k) (A (τ t (suc k)))
 abbrev pub B : Table → ℕ → ℕ
 B t k = P t - Amax t k + 1
 
--- the most that a task τ runs in a window of s ticks, (⌊s / T⌋ + 2) · C (equation 3)
-abbrev pub interferenceIn : ℕ → Task → ℕ
-interferenceIn s τ = (s / T τ + 2) * C τ
-
--- interference of task i on task k, I_k^i, in k's slack
+-- I_k^i
 unfoldable pub interference : Table → ℕ → ℕ → ℕ
-interference t k i = interferenceIn (S t k) (τ t i)
-
--- max(1 / M, A_i / B) of theorem 2, times M × B, of a task that asks for a partitions
-abbrev pub weightOf : ℕ → ℕ → ℕ → ℕ
-weightOf m b a = max b (m * a)
-
--- χ* of theorem 2, times M × B, of n tasks where task i asks for a i partitions and has interference x i
-abbrev pub loadOf : (n m b : ℕ) → (a x : ℕ → ℕ) → ℕ
-loadOf n m b a x = Σ n (λ i. weightOf m b (a i) * x i)
+interference t k i = interferenceOf (rows t) k i
 
 abbrev pub weight : Table → ℕ → ℕ → ℕ
 weight t k i = weightOf (M t) (B t k) (A (τ t i))
@@ -48,7 +44,7 @@ load t k = loadOf (t .n) (M t) (B t k) (λ i. A (τ t i)) (interference t k)
 
 -- S_k of equation 9, times M × B
 unfoldable pub limit : Table → ℕ → ℕ
-limit t k = M t * B t k * S t k
+limit t k = limitOf (M t) (B t k) (S t k)
 
 -- a less b, a signed number
 unfoldable pub less : ℕ → ℕ → ℤ

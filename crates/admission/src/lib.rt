@@ -6,7 +6,8 @@ ghost use Rattle.maths.specs.Tasks.{orElse};
 ghost use Rattle.table.specs.Good.{Good, GoodRow};
 ghost use Rattle.table.specs.Limits.{mostTasks, mostCores, mostPartitions, longestPeriod};
 ghost use Rattle.table.specs.Tasks.{D, C};
-ghost use Rattle.admission.specs.Test.{interferenceIn, weightOf, less, above0, firstFailing};
+ghost use Rattle.lives.specs.Report.{equation3, weightOf, limitOf};
+ghost use Rattle.admission.specs.Test.{row, less, above0, firstFailing};
 ghost use Rattle.admission.specs.Answers.{judgement, fullAnswer, quickAnswer};
 use table::Cores;
 use table::Partitions;
@@ -41,37 +42,37 @@ pub struct QuickAnswer {
     pub first: usize,
 }
 
-// Equation 3, of a row in a window of s ticks.
-fn interferes(s: u32, row: Task) -> u64
-    requires { ⌜ (s ≤ longestPeriod) × GoodRow mostPartitions row ⌝ }
-    ensures { λ r. ⌜ r ≡ interferenceIn s row ⌝ }
+// Equation 3, of a task in a window of s ticks.
+fn interferes(s: u32, task: Task) -> u64
+    requires { ⌜ (s ≤ longestPeriod) × GoodRow mostPartitions task ⌝ }
+    ensures { λ r. ⌜ r ≡ equation3 s (row task) ⌝ }
 {
-    let jobs = s / row.t + 2;
-    (jobs as u64) * (row.c as u64)
+    let jobs = s / task.t + 2;
+    (jobs as u64) * (task.c as u64)
 }
 
-// The weight of a row in the load of a task whose B is b.
-fn weighs(m: Cores, b: Partitions, row: Task) -> u32
-    requires { ⌜ (m .0 ≤ mostCores) × GoodRow mostPartitions row ⌝ }
-    ensures { λ r. ⌜ r ≡ weightOf (m .0) (b .0) (row .a .0) ⌝ }
+// The weight of a task in the load of one whose B is b.
+fn weighs(m: Cores, b: Partitions, task: Task) -> u32
+    requires { ⌜ (m .0 ≤ mostCores) × GoodRow mostPartitions task ⌝ }
+    ensures { λ r. ⌜ r ≡ weightOf (m .0) (b .0) (task .a .0) ⌝ }
 {
-    let share = m.0 * row.a.0;
+    let share = m.0 * task.a.0;
     if share < b.0 { b.0 } else { share }
 }
 
-// What a row adds to the load of a task whose B is b and whose slack is s.
-fn term(m: Cores, b: Partitions, s: u32, row: Task) -> u64
-    requires { ⌜ (m .0 ≤ mostCores) × (b .0 ≤ 65) × (s ≤ longestPeriod) × GoodRow mostPartitions row ⌝ }
-    ensures { λ r. ⌜ r ≡ weightOf (m .0) (b .0) (row .a .0) * interferenceIn s row ⌝ }
+// What a task adds to the load of one whose B is b and whose slack is s.
+fn term(m: Cores, b: Partitions, s: u32, task: Task) -> u64
+    requires { ⌜ (m .0 ≤ mostCores) × (b .0 ≤ 65) × (s ≤ longestPeriod) × GoodRow mostPartitions task ⌝ }
+    ensures { λ r. ⌜ r ≡ weightOf (m .0) (b .0) (task .a .0) * equation3 s (row task) ⌝ }
 {
-    let w = weighs(m, b, row);
-    (w as u64) * interferes(s, row)
+    let w = weighs(m, b, task);
+    (w as u64) * interferes(s, task)
 }
 
 // The limit of a task whose B is b and whose slack is s.
 fn limited(m: Cores, b: Partitions, s: u32) -> u64
     requires { ⌜ (m .0 ≤ mostCores) × (b .0 ≤ 65) × (s ≤ longestPeriod) ⌝ }
-    ensures { λ r. ⌜ r ≡ m .0 * b .0 * s ⌝ }
+    ensures { λ r. ⌜ r ≡ limitOf (m .0) (b .0) s ⌝ }
 {
     (m.0 as u64) * (b.0 as u64) * (s as u64)
 }

@@ -13,7 +13,7 @@ use Rattle.sets.proofs.Sizes.{size-zero, size-idle}
 use Rattle.sets.proofs.Unions.{union-size}
 use Rattle.machine.specs.declared.Job.{Job}
 use Rattle.machine.specs.declared.Machine.{Machine}
-use Rattle.machine.specs.Jobs.{isRunning, job, running, busy, idleCount}
+use Rattle.machine.specs.Jobs.{isRunning, job, held, running, busy, idlePartitions}
 use Rattle.machine.proofs.StateParts.{GoodJob, GoodState, when-running, when-not-running, busy-lt}
 use Rattle.lives.specs.Life.{runs}
 use Rattle.conduct.specs.Lives.{life}
@@ -27,19 +27,19 @@ held-size {p} {τ} {j} g = by (isRunning (j .stage)) refl
     by true e = rw (shows j .runs, e) (omega (arith, when-running g e .count))
     by false e = rw (shows j .runs, e, when-not-running g e .none) (omega (arith, size-zero mostPartitions))
 
--- the partitions that the running jobs hold
-abbrev pub held : Machine → ℕ
-held m = Σ (m .table .n) (λ k. A (τ (m .table) k) * runs (life (job m k)))
+-- how many partitions the running jobs hold
+abbrev pub heldCount : Machine → ℕ
+heldCount m = Σ (m .table .n) (λ k. A (τ (m .table) k) * runs (life (job m k)))
 
 module _ {m : Machine} (g : GoodState m) where
-  busy-size : size mostPartitions (busy m) ≡ held m
+  busy-size : size mostPartitions (busy m) ≡ heldCount m
   unfolding busy
   busy-size =
-      union-size (λ i. job m (suc i) .held) mostPartitions (m .table .n) (g .apart)
+      union-size (λ i. held m (suc i)) mostPartitions (m .table .n) (g .apart)
       ∙ sum-ext _ _ (m .table .n) (λ i l. held-size (g .each i l))
 
-  pub idle-partitions : idleCount m ≡ P (m .table) - held m
-  idle-partitions = size-idle mostPartitions (P (m .table)) (busy m) (g .table .partitions) (busy-lt g) ∙ rw busy-size
+  pub idle-partitions : idlePartitions m .0 ≡ P (m .table) - heldCount m
+  idle-partitions = size-idle mostPartitions (P (m .table)) (busy m) (g .table .sizes .partitions) (busy-lt g) ∙ rw busy-size
 
 pub running-jobs : (m : Machine) → running m ≡ Σ (m .table .n) (λ k. runs (life (job m k)))
 unfolding running

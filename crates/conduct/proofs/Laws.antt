@@ -4,29 +4,29 @@ use mathlib.Core.Path.{_≡_, refl, sym, _∙_, subst}
 use mathlib.Core.Bool.{Bool, true, false, _&&_}
 use native.Mathlib.Omega.{arith}
 use lib.ListN.{length}
-use Rattle.maths.specs.Tasks.{Each}
 use Rattle.maths.proofs.Tasks.{each}
 use Rattle.maths.proofs.Tests.{both}
 use Rattle.table.specs.declared.Table.{Table}
 use Rattle.table.specs.declared.Task.{Task}
 use Rattle.table.specs.Limits.{mostTasks}
-use Rattle.table.specs.Tasks.{τ, T}
+use Rattle.table.specs.Tasks.{τ}
 use Rattle.sets.specs.TaskSets.{hasTask}
 use Rattle.sets.proofs.Wheres.{tasks-has}
 use Rattle.machine.specs.declared.Job.{Job}
 use Rattle.machine.specs.declared.Machine.{Machine}
-use Rattle.machine.specs.Jobs.{isWaiting, job, waits, runs}
+use Rattle.machine.specs.Jobs.{isWaiting, job, top, waits, runs}
 use Rattle.machine.specs.Steps.{finish, passed, lateSet}
 use Rattle.machine.specs.Tick.{readied, moved, startedSet, tickRefusal, accepted, tick}
 use Rattle.machine.proofs.Jobs.{readiedJob, readied-table, readied-job}
 use Rattle.machine.proofs.StateParts.{GoodState}
 use Rattle.machine.proofs.StateTest.{state-good, state-test}
 use Rattle.lives.specs.Life as L
-use Rattle.lives.specs.Life.{Allowed, Next}
-use Rattle.conduct.specs.Lives.{row, life}
+use Rattle.lives.specs.Life.{Allowed}
+use Rattle.admission.specs.Test.{row}
+use Rattle.conduct.specs.Lives.{life}
 use Rattle.conduct.specs.Conduct.{FullFor, Conduct}
-use Rattle.conduct.proofs.Accepted.{accepted-is}
-use Rattle.conduct.proofs.Taken.{taken}
+use Rattle.machine.proofs.Accepted.{accepted-is}
+use Rattle.machine.proofs.Taken.{taken}
 use Rattle.conduct.proofs.Lives.{one-true, shows}
 use Rattle.conduct.proofs.Lemma1.{full-of}
 use Rattle.conduct.proofs.Ready.{readied-good}
@@ -94,7 +94,7 @@ module _ (m : Machine) (R F : ℕ) (len : length (m .table .rows) ≡ mostTasks)
     τi = τ t (suc i)
 
     is-readied : job (readied m R F) (suc i) ≡ readiedJob τi (hasTask R (suc i)) (hasTask F (suc i)) (job m (suc i))
-    is-readied = readied-job m (suc i) (omega arith) l (omega (arith, good-before .table .few)) R F
+    is-readied = readied-job m (suc i) (omega arith) l (omega (arith, good-before .table .sizes .few)) R F
 
     started-is : hasTask S (suc i) ≡ starts (job (readied m R F) (suc i)) (job x (suc i))
     started-is =
@@ -102,13 +102,13 @@ module _ (m : Machine) (R F : ℕ) (len : length (m .table .rows) ≡ mostTasks)
         rw (tick-started m R F ok, tick-moved m R F ok)
         (tasks-has (λ k. waits (readied m R F) k && runs (moved m R F) k) (moved m R F .table .n) (suc i) (omega arith) now-n)
 
-    allows : Allowed (row τi) (L.rise (T τi) (life (job m (suc i)))) (hasTask F (suc i)) (hasTask R (suc i)) (hasTask S (suc i))
+    allows : Allowed (row τi) (L.rise (top τi) (life (job m (suc i)))) (hasTask F (suc i)) (hasTask R (suc i)) (hasTask S (suc i))
     allows =
         rw (started-is, is-readied)
         (allowed τi (hasTask R (suc i)) (hasTask F (suc i)) (job m (suc i)) (job x (suc i))
-        (taken m R F (good-before .table .few) (accepted-is m R F ok) (suc i) (omega arith) l))
+        (taken m R F (good-before .table .sizes .few) (accepted-is m R F ok) (suc i) (omega arith) l))
 
-    moves : L.start (hasTask S (suc i)) (L.release (hasTask R (suc i)) (L.finish (hasTask F (suc i)) (L.rise (T τi) (life (job m (suc i))))))
+    moves : L.start (hasTask S (suc i)) (L.release (hasTask R (suc i)) (L.finish (hasTask F (suc i)) (L.rise (top τi) (life (job m (suc i))))))
         ≡ life (job x (suc i))
     moves =
         rw (started-is, is-readied)
@@ -134,9 +134,3 @@ module _ (m : Machine) (R F : ℕ) (len : length (m .table .rows) ≡ mostTasks)
         full = each (t .n) _ full;
         order = each (t .n) _ (λ k l w. each (t .n) _ (λ i h s. behind k i l h w s));
       }
-
--- S-next in one piece
-pub next : {t : Table} {m x : Machine} {R F S : ℕ} → Conduct t m x R F S
-    → Each (t .n) (λ k. Next (row (τ t k)) (T (τ t k)) (life (job m k)) (life (job x k)))
-next {t} {m} {x} {R} {F} {S} c k l h =
-    record { finished = hasTask F k; released = hasTask R k; started = hasTask S k; allowed = c .allows k l h; lands = c .moves k l h }

@@ -5,10 +5,9 @@ use mathlib.Core.Bool.{Bool, true, false, cond, true≢false}
 use native.Mathlib.Numerals.{add-one}
 use native.Mathlib.Omega.{arith}
 use Rattle.table.specs.declared.Task.{Task}
-use Rattle.table.specs.Tasks.{T}
 use Rattle.machine.specs.declared.Stage.{Stage}
 use Rattle.machine.specs.declared.Job.{Job}
-use Rattle.machine.specs.Jobs.{isIdle, isWaiting, isRunning}
+use Rattle.machine.specs.Jobs.{isIdle, isWaiting, isRunning, top}
 use Rattle.machine.specs.Steps.{older, begun}
 use Rattle.machine.proofs.Jobs.{finishedJob, readiedJob}
 use Rattle.machine.proofs.StateParts.{Staged, waiting-is, running-is}
@@ -68,12 +67,12 @@ pub shows : (j : Job) → Shown (j .stage) (j .age) (j .ran)
 shows j = shown (j .stage) (j .age) (j .ran)
 
 -- step 1
-pub life-older : (τ : Task) (j : Job) → life (older τ j) ≡ rise (T τ) (life j)
+pub life-older : (τ : Task) (j : Job) → life (older τ j) ≡ rise (top τ) (life j)
 life-older τ j = by (isRunning (j .stage)) (isWaiting (j .stage))
   where
     by : (run wait : Bool)
-        → cond run (running (min (j .age + 1) (T τ)) (cond run (j .ran + 1) (j .ran))) (cond wait (waiting (min (j .age + 1) (T τ))) (idle (min (j .age + 1) (T τ))))
-        ≡ rise (T τ) (cond run (running (j .age) (j .ran)) (cond wait (waiting (j .age)) (idle (j .age))))
+        → cond run (running (min (j .age + 1) (top τ)) (cond run (j .ran + 1) (j .ran))) (cond wait (waiting (min (j .age + 1) (top τ))) (idle (min (j .age + 1) (top τ))))
+        ≡ rise (top τ) (cond run (running (j .age) (j .ran)) (cond wait (waiting (j .age)) (idle (j .age))))
     by true wait = rw (add-one (j .age), add-one (j .ran))
     by false true = rw add-one
     by false false = rw add-one
@@ -83,12 +82,12 @@ pub finished-staged : (τ : Task) (f : Bool) (j : Job) → Staged (j .stage) →
 finished-staged τ true j k = λ i. absurd (true≢false i)
 finished-staged τ false j k = k
 
-pub life-finished : (τ : Task) (f : Bool) (j : Job) → life (finishedJob τ f j) ≡ finish f (rise (T τ) (life j))
+pub life-finished : (τ : Task) (f : Bool) (j : Job) → life (finishedJob τ f j) ≡ finish f (rise (top τ) (life j))
 life-finished τ true j = rw (← life-older τ j, shows (older τ j) .age)
 life-finished τ false j = life-older τ j
 
 -- step 4
-pub life-readied : (τ : Task) (r f : Bool) (j : Job) → life (readiedJob τ r f j) ≡ release r (finish f (rise (T τ) (life j)))
+pub life-readied : (τ : Task) (r f : Bool) (j : Job) → life (readiedJob τ r f j) ≡ release r (finish f (rise (top τ) (life j)))
 life-readied τ true f j = refl
 life-readied τ false f j = life-finished τ f j
 

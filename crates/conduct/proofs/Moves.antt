@@ -3,15 +3,16 @@ use mathlib.Core.Path.{_≡_, refl, sym, _∙_}
 use mathlib.Core.Bool.{Bool, true, false, _&&_, true≢false}
 use mathlib.Core.Logic.{_≢_}
 use Rattle.table.specs.declared.Task.{Task}
-use Rattle.table.specs.Tasks.{T, C}
+use Rattle.table.specs.Tasks.{C}
 use Rattle.machine.specs.declared.Job.{Job}
-use Rattle.machine.specs.Jobs.{isWaiting, isRunning}
+use Rattle.machine.specs.Jobs.{isWaiting, isRunning, top}
 use Rattle.machine.specs.Steps.{older}
 use Rattle.machine.proofs.Jobs.{finishedJob, readiedJob}
 use Rattle.machine.proofs.StateParts.{not-both}
 use Rattle.lives.specs.Life.{age, ran, idles, waits, runs, rise, finish, release, start, Allowed}
-use Rattle.conduct.specs.Lives.{row, life}
-use Rattle.conduct.proofs.Taken.{Taken}
+use Rattle.admission.specs.Test.{row}
+use Rattle.conduct.specs.Lives.{life}
+use Rattle.machine.proofs.Taken.{Taken}
 use Rattle.conduct.proofs.Lives.{one-true, shows, life-older, life-finished, life-readied, life-begun}
 use Rattle.conduct.proofs.Starting.{Began, stayed, began}
 
@@ -33,7 +34,7 @@ starts-waiting a b = by (isWaiting (a .stage))
     by false e = e
 
 module _ (τ : Task) (r f : Bool) (j : Job) (b : Job) where
-  pub allowed : Taken τ r f j → Allowed (row τ) (rise (T τ) (life j)) f r (starts (readiedJob τ r f j) b)
+  pub allowed : Taken τ r f j → Allowed (row τ) (rise (top τ) (life j)) f r (starts (readiedJob τ r f j) b)
   allowed t =
       record {
         wasRunning = λ e. rw (← life-older τ j) (shows (older τ j) .runs ∙ rw (t .wasRunning e));
@@ -43,8 +44,8 @@ module _ (τ : Task) (r f : Bool) (j : Job) (b : Job) where
         queued = λ e. rw (← life-readied τ r f j) (shows (readiedJob τ r f j) .waits ∙ rw (starts-waiting (readiedJob τ r f j) b e));
       }
     where
-      over : f ≡ false → isRunning (j .stage) ≡ true → ran (rise (T τ) (life j)) ≢ C τ
+      over : f ≡ false → isRunning (j .stage) ≡ true → ran (rise (top τ) (life j)) ≢ C τ
       over e p = rw (← life-older τ j, shows (older τ j) .ran p) (t .notOver p e)
 
-  pub lands : Began (readiedJob τ r f j) b → start (starts (readiedJob τ r f j) b) (release r (finish f (rise (T τ) (life j)))) ≡ life b
+  pub lands : Began (readiedJob τ r f j) b → start (starts (readiedJob τ r f j) b) (release r (finish f (rise (top τ) (life j)))) ≡ life b
   lands s = rw (← life-readied τ r f j) (sym (life-started s))

@@ -17,14 +17,14 @@ use Rattle.sets.proofs.Bits.{bit-zero}
 use Rattle.sets.proofs.Holders.{apart-within}
 use Rattle.machine.specs.declared.Job.{Job}
 use Rattle.machine.specs.declared.Machine.{Machine}
-use Rattle.machine.specs.Jobs.{isIdle, isRunning, noJob, job, runs, running}
+use Rattle.machine.specs.Jobs.{isIdle, isRunning, noJob, job, held, runs, running}
 use Rattle.machine.specs.Steps.{forTasks, older, awaiting}
 use Rattle.machine.specs.Tick.{readied}
 use Rattle.machine.proofs.Jobs.{for-past, finishedJob, readiedJob, readied-pass, readied-job, readied-table}
 use Rattle.machine.proofs.Queue.{ended-rests}
 use Rattle.machine.proofs.StateParts.{ByStage, is-idle, is-waiting, is-running, GoodJob, GoodState, when-idle}
-use Rattle.conduct.proofs.Accepted.{Accepted}
-use Rattle.conduct.proofs.Taken.{taken}
+use Rattle.machine.proofs.Accepted.{Accepted}
+use Rattle.machine.proofs.Taken.{taken}
 use Rattle.conduct.proofs.Lives.{one}
 
 module _ {p : ℕ} {τ : Task} (row : GoodRow p τ) where
@@ -67,7 +67,7 @@ runs-less τ false false j = le-refl (one (isRunning (j .stage)))
 module _ (m : Machine) (R F : ℕ) (g : GoodState m) (a : Accepted m R F) where
   module _ (i : ℕ) (l : i < m .table .n) where
     few : suc i ≤ mostTasks
-    few = omega (arith, g .table .few)
+    few = omega (arith, g .table .sizes .few)
 
     is : job (readied m R F) (suc i) ≡ readiedJob (τ (m .table) (suc i)) (hasTask R (suc i)) (hasTask F (suc i)) (job m (suc i))
     is = readied-job m (suc i) (omega arith) l few R F
@@ -75,11 +75,11 @@ module _ (m : Machine) (R F : ℕ) (g : GoodState m) (a : Accepted m R F) where
     each-good : GoodJob (P (m .table)) (τ (m .table) (suc i)) (job (readied m R F) (suc i))
     each-good =
         let row = g .table .row i l in
-        let t = taken m R F (g .table .few) a (suc i) (omega arith) l in
+        let t = taken m R F (g .table .sizes .few) a (suc i) (omega arith) l in
         rw is (released-good row (hasTask R (suc i)) _ (finished-good row (hasTask F (suc i)) (job m (suc i)) (g .each i l) (t .notOver)) (t .free))
 
-    within : Within (job (readied m R F) (suc i) .held) (job m (suc i) .held)
-    within = rw is (held-less (τ (m .table) (suc i)) (hasTask R (suc i)) (hasTask F (suc i)) (job m (suc i)))
+    within : Within (held (readied m R F) (suc i)) (held m (suc i))
+    within = rw (held, is) (held-less (τ (m .table) (suc i)) (hasTask R (suc i)) (hasTask F (suc i)) (job m (suc i)))
 
     fewer : one (runs (readied m R F) (suc i)) ≤ one (runs m (suc i))
     fewer = rw is (runs-less (τ (m .table) (suc i)) (hasTask R (suc i)) (hasTask F (suc i)) (job m (suc i)))
@@ -91,14 +91,14 @@ module _ (m : Machine) (R F : ℕ) (g : GoodState m) (a : Accepted m R F) where
   past : (i : ℕ) → m .table .n ≤ i → i < mostTasks → job (readied m R F) (suc i) ≡ noJob
   past i h l = rw (readied-pass m R F) (for-past _ m (suc i) (omega arith) l ∙ g .noJobs i h l)
 
-  apart : Apart (m .table .n) (λ i. job (readied m R F) (suc i) .held)
-  apart = apart-within (λ i. job m (suc i) .held) (λ i. job (readied m R F) (suc i) .held) (m .table .n) within (g .apart)
+  apart : Apart (m .table .n) (λ i. held (readied m R F) (suc i))
+  apart = apart-within (λ i. held m (suc i)) (λ i. held (readied m R F) (suc i)) (m .table .n) within (g .apart)
 
   pub readied-good : GoodState (readied m R F)
   unfolding forTasks
   readied-good =
       record {
-        accepted = g .accepted;
+        unrefused = g .unrefused;
         table = g .table;
         noTasks = g .noTasks;
         noJobs = past;

@@ -1,15 +1,10 @@
--- What the theory of lives sees of a machine: of a task its deadline, period and longest run, of a job its life.
+-- What the theory of lives sees of a machine: of a job its life.
 use Prim.Native.Nat.{ℕ}
 use mathlib.Core.Bool.{cond}
-use Rattle.table.specs.declared.Task.{Task}
-use Rattle.table.specs.Tasks.{D, T, C}
 use Rattle.machine.specs.declared.Stage.{Stage}
 use Rattle.machine.specs.Jobs.{isWaiting, isRunning}
 use Rattle.machine.specs.declared.Job.{Job}
-use Rattle.lives.specs.Life.{Row, Life, idle, waiting, running}
-
-abbrev pub row : Task → Row
-row τ = record { D = D τ; T = T τ; C = C τ }
+use Rattle.lives.specs.Life.{Life, idle, waiting, running}
 
 abbrev pub lifeIn : Stage → ℕ → ℕ → Life
 lifeIn s age ran = cond (isRunning s) (running age ran) (cond (isWaiting s) (waiting age) (idle age))

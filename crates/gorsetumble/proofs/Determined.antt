@@ -8,6 +8,7 @@ use Rattle.maths.proofs.Determined.{determined, determined-both}
 use Rattle.table.specs.declared.Platform.{Platform}
 use Rattle.table.specs.declared.Task.{Task}
 use Rattle.table.specs.declared.Refusal.{Refusal}
+use Rattle.table.specs.Tasks.{tableOf}
 use Rattle.admission.specs.declared.FullAnswer.{FullAnswer}
 use Rattle.admission.specs.declared.QuickAnswer.{QuickAnswer}
 use Rattle.admission.specs.Answers.{fullAnswer, quickAnswer}
@@ -16,7 +17,6 @@ use Rattle.machine.specs.declared.SetUp.{SetUp}
 use Rattle.machine.specs.Fresh.{setUp}
 use Rattle.gorsetumble.specs.declared.texting.TextRefusal.{TextRefusal}
 use Rattle.gorsetumble.specs.FromTexts.{setUpTexts}
-use Rattle.gorsetumble.specs.Lent.{tableOf}
 
 module _ (p : Platform) (rows : List Task) where
   pub full-determined : (r s : FullAnswer) → r ≡ fullAnswer (tableOf p rows) → s ≡ fullAnswer (tableOf p rows) → r ≡ s

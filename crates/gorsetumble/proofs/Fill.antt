@@ -9,12 +9,11 @@ use borrow.Author.Tests.{le-leb, lt-leb}
 use lib.Dec.{leb}
 use lib.ListN.{length, getD, set, List·getD-eq-default}
 use Rattle.maths.specs.Tasks.{tabulate, entry}
-use Rattle.maths.proofs.Arrays.{upTo, tabulate-ext, up-none, up-more, up-most}
+use Rattle.maths.proofs.Arrays.{upTo, tabulate-ext, padded-entries, up-none, up-more, up-most}
 use Rattle.table.specs.declared.Platform.{Platform}
 use Rattle.table.specs.declared.Task.{Task}
 use Rattle.table.specs.Limits.{mostTasks}
-use Rattle.table.specs.Tasks.{noTask}
-use Rattle.gorsetumble.specs.Lent.{tableOf}
+use Rattle.table.specs.Tasks.{noTask, tableOf}
 use Rattle.gorsetumble.specs.Code.Rows.{noRows, withRows}
 
 module _ (ys : List Task) where
@@ -39,4 +38,6 @@ module _ (ys : List Task) where
           ]
 
   pub at-last : (p : Platform) → withRows p (length ys) (after (min (length ys) mostTasks)) ≡ tableOf p ys
-  at-last p = ap (withRows p (length ys)) (up-most mostTasks (λ k. entry ys k noTask) (λ k. noTask) (length ys) ∙ rows-end)
+  at-last p =
+      ap (withRows p (length ys))
+      (up-most mostTasks (λ k. entry ys k noTask) (λ k. noTask) (length ys) ∙ rows-end ∙ sym (padded-entries noTask mostTasks ys))

@@ -26,7 +26,7 @@ use denote.Triple.Statement.{Triple}
 use denote.Triple.Spec.{Meets, tripleOf}
 use Rattle.table.specs.declared.Platform.{Platform}
 use Rattle.table.specs.declared.Table.{Table}
-use Rattle.gorsetumble.specs.Lent.{tableOf}
+use Rattle.table.specs.Tasks.{tableOf}
 use Rattle.lent.proofs.Data.{Data, Value, row, ty, val, vals, Fits, told, made, typed}
 use Rattle.gorsetumble.proofs.OfRows.{ended, clauses, Entry, Post, exits, meets-by}
 use Rattle.gorsetumble.proofs.Rows.{TableOf, calls-table}

@@ -1,3 +1,6 @@
+pub mod Board
+pub mod BoardContracts
+pub mod Contracts
 pub mod Cut
 pub mod Demands
 pub mod Determined

@@ -33,7 +33,7 @@ use denote.Triple.Walked.{says, Stays, stay-ref, stay-none, stay-none-slice, wal
 use Rattle.table.specs.declared.Platform.{Platform}
 use Rattle.table.specs.declared.Table.{Table}
 use Rattle.table.specs.declared.Refusal.{Refusal}
-use Rattle.gorsetumble.specs.Lent.{tableOf}
+use Rattle.table.specs.Tasks.{tableOf}
 use Rattle.lent.proofs.Data.{Data, Value, row, ty, val, vals, Fits, told, made, typed, parts}
 use Rattle.gorsetumble.proofs.Tables.{platform, task, table, refusal, Rows, lent}
 use Rattle.gorsetumble.proofs.Rows.{TableOf, calls-table}

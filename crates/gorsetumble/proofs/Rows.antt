@@ -22,7 +22,7 @@ use denote.Triple.Statement.{Contract, Triple}
 use denote.Triple.Spec.{tripleOf}
 use Rattle.table.specs.declared.Platform.{Platform}
 use Rattle.table.specs.declared.Table.{Table}
-use Rattle.gorsetumble.specs.Lent.{tableOf}
+use Rattle.table.specs.Tasks.{tableOf}
 use Rattle.lent.proofs.Data.{row, val, vals, Fits, told, made}
 use Rattle.gorsetumble.proofs.Tables.{platform, task, table, Rows, lent}
 use Rattle.lent.proofs.Walk.{calls-told}

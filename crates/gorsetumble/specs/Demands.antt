@@ -11,6 +11,7 @@ use Rattle.table.specs.declared.Task.{Task}
 use Rattle.table.specs.declared.Refusal.{Refusal}
 use Rattle.table.specs.Limits.{mostTasks}
 use Rattle.table.specs.Refused.{refusal}
+use Rattle.table.specs.Tasks.{tableOf}
 use Rattle.admission.specs.Answers.{fullAnswer, quickAnswer}
 use Rattle.admission.specs.declared.FullAnswer.{FullAnswer}
 use Rattle.admission.specs.declared.QuickAnswer.{QuickAnswer}
@@ -20,9 +21,8 @@ use Rattle.machine.specs.Jobs.{job}
 use Rattle.machine.specs.Tick.{refusedAnswer, tick}
 use Rattle.promise.specs.Sequences.{Report, Sequence, steps}
 use Rattle.promise.specs.Promise.{Kept}
-use Rattle.gorsetumble.specs.Lent.{tableOf}
 
-pub record Demand1 : Type 0 where
+pub record LentDemand1 : Type 0 where
   -- A set-up that is refused leaves the machine as it was lent.
   pub setUpRefused : (m : Machine) (p : Platform) (rows : List Task)
       → setUp m (tableOf p rows) .refused .number ≢ 0 → setUp m (tableOf p rows) .machine ≡ m
@@ -40,7 +40,7 @@ pub record Demand1 : Type 0 where
 abbrev pub withoutMargins : FullAnswer → QuickAnswer
 withoutMargins a = record { refused = a .refused; admitted = a .admitted; first = a .first }
 
-pub record Demand2 : Type 0 where
+pub record LentDemand2 : Type 0 where
   -- No row at all, and more rows than a table keeps, however many, earn refusal 1.
   pub none : (p : Platform) → refusal (tableOf p []) ≡ record { number = 1; row = 0 }
   pub tooMany : (p : Platform) (rows : List Task) → mostTasks < length rows → refusal (tableOf p rows) ≡ record { number = 1; row = 0 }
@@ -52,6 +52,6 @@ since m reports = record { first = m; ticks = steps m reports }
 
 -- Where the quick answer on a lent row is "admitted", set-up from that row is not refused, whatever the machine was, and from there on
 -- the machine keeps the promise, whatever it is told.
-abbrev pub Demand3 : Type 0
-Demand3 = (m : Machine) (p : Platform) (rows : List Task) → quickAnswer (tableOf p rows) .admitted ≡ true → (reports : List Report)
+abbrev pub LentDemand3 : Type 0
+LentDemand3 = (m : Machine) (p : Platform) (rows : List Task) → quickAnswer (tableOf p rows) .admitted ≡ true → (reports : List Report)
     → (setUp m (tableOf p rows) .refused .number ≡ 0) × Kept (tableOf p rows) (since (setUp m (tableOf p rows) .machine) reports)

@@ -4,7 +4,7 @@ ghost use Prim.Native.Nat.{suc, min};
 ghost use lib.ListN.{take};
 ghost use Rattle.table.specs.Limits.{mostTasks};
 ghost use Rattle.machine.specs.Fresh.{setUp};
-ghost use Rattle.gorsetumble.specs.Lent.{tableOf};
+ghost use Rattle.table.specs.Tasks.{tableOf};
 use crate::gorsetumble_set_up;
 use machine::Machine;
 use machine::SetUp;

@@ -3,12 +3,10 @@ pub mod lending;
 pub mod texting;
 
 ghost use mathlib.Core.Path.{_≡_};
-ghost use Prim.Native.Nat.{min};
-ghost use Rattle.table.specs.Limits.{mostTasks};
+ghost use Rattle.table.specs.Tasks.{tableOf};
 ghost use Rattle.admission.specs.Answers.{fullAnswer, quickAnswer};
 ghost use Rattle.machine.specs.Fresh.{setUp};
 ghost use Rattle.machine.specs.Tick.{tick};
-ghost use Rattle.gorsetumble.specs.Lent.{tableOf};
 ghost use Rattle.gorsetumble.specs.Code.Rows.{noRows, withRows};
 use admission::FullAnswer;
 use admission::QuickAnswer;
@@ -18,13 +16,6 @@ use table::Platform;
 use table::Refusal;
 use table::Table;
 use table::Task;
-
-// How many of n rows a table keeps.
-fn kept(n: usize) -> usize
-    ensures { λ r. ⌜ r ≡ min n mostTasks ⌝ }
-{
-    if n < Table::MOST { n } else { Table::MOST }
-}
 
 fn no_rows() -> [Task; Table::MOST]
     ensures { λ r. ⌜ r ≡ noRows ⌝ }
@@ -48,7 +39,7 @@ fn table_of(platform: Platform, rows: &[Task]) -> Table
     ensures { λ r. ⌜ r ≡ tableOf platform (now (rows .entry)) ⌝ }
 {
     let n = rows.len();
-    let m = kept(n);
+    let m = Table::entries(n);
     let mut first = no_rows();
     let mut i: usize = 0;
     while i < m {

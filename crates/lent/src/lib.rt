@@ -9,7 +9,7 @@ use machine::Ticked;
 pub fn tick(m: &mut Machine, released: u32, finished: u32) -> Answer
     ensures { λ r. ⌜ (r ≡ tick (now (m .entry)) released finished .answer) × (now (m .exit) ≡ tick (now (m .entry)) released finished .machine) ⌝ }
 {
-    let s = Machine::tick(*m, released, finished);
+    let s = ticking::tick(*m, released, finished);
     *m = s.machine;
     s.answer
 }

@@ -3,11 +3,12 @@ use mathlib.Core.Path.{_≡_}
 use Prim.Native.Nat.{ℕ, zero, suc, _+_, _≤_, _<_}
 use native.Mathlib.Omega.{arith}
 use native.Mathlib.Nat.{add-zero, add-suc}
-use Rattle.lives.specs.Life.{Row, slack, Life, age, ran, idles, waits, runs}
+use Rattle.lives.specs.Report.{Row, slack}
+use Rattle.lives.specs.Life.{Life, age, ran, idles, waits, runs}
 use Rattle.lives.specs.Style.{Style, Course, Unfinished}
 use Rattle.lives.proofs.Steps.{step}
 use Rattle.lives.proofs.OnTime.{waiting-age, running-age, young, counts}
-use Rattle.lives.proofs.InTime.{all-good, all-on-time}
+use Rattle.lives.proofs.InTime.{all-within, all-on-time}
 
 module _ {n : ℕ} {rows : ℕ → Row} {top : ℕ → ℕ} {style : Style n rows top} {x : ℕ → ℕ → Life} {N : ℕ} (c : Course style x N)
     (k : ℕ) (p : 1 ≤ k) (q : k ≤ n) (t : ℕ) where
@@ -19,8 +20,8 @@ module _ {n : ℕ} {rows : ℕ → Row} {top : ℕ → ℕ} {style : Style n row
       let last : idles (x (suc (t + d)) k) ≡ 0 = rw add-suc at (job .since (suc d) (omega arith)) in
       let more : age (x (suc (t + d)) k) ≡ suc (age (x (t + d) k)) =
       counts (rows k) (top k) (style .sound k p q) (style .held k p q)
-      (step (all-good c (t + d) (omega arith) k p q) (c .next (t + d) (omega arith) k p q))
-      (all-good c (t + d) (omega arith) k p q) (all-on-time c (t + d) (omega arith) k p q) (job .since d (omega arith)) last in
+      (step (all-within c (t + d) (omega arith) k p q) (c .next (t + d) (omega arith) k p q))
+      (all-within c (t + d) (omega arith) k p q) (all-on-time c (t + d) (omega arith) k p q) (job .since d (omega arith)) last in
       rw add-suc (omega arith)
 
   module _ (d : ℕ) (l : t + d ≤ N) (job : Unfinished x k t d) where
@@ -38,5 +39,5 @@ module _ {n : ℕ} {rows : ℕ → Row} {top : ℕ → ℕ} {style : Style n row
         omega (
           arith,
           age-counts d l job,
-          young (rows k) (x (t + d) k) (style .sound k p q) (all-good c (t + d) l k p q) (all-on-time c (t + d) l k p q) (job .since d (omega arith)),
+          young (rows k) (x (t + d) k) (style .sound k p q) (all-within c (t + d) l k p q) (all-on-time c (t + d) l k p q) (job .since d (omega arith)),
         )

@@ -1,9 +1,10 @@
--- One tick, by cases: its nine outcomes for a task, what the window bounds need of each, and that a life stays good and a job on time stays in time.
+-- One tick, by cases: its nine outcomes for a task, what the window bounds need of each, and that a job that has run less than C ticks stays so.
 use mathlib.Core.Path.{_≡_, refl, subst}
 use mathlib.Core.Bool.{Bool, true, false}
 use Prim.Native.Nat.{ℕ, suc, _+_, _-_, _≤_, _<_, min}
 use native.Mathlib.Omega.{arith}
-use Rattle.lives.specs.Life.{Row, Sound, slack, Life, idle, waiting, running, age, runs, up, rise, finish, release, start, Allowed, Next, Good, InTime, OnTime}
+use Rattle.lives.specs.Report.{Row, slack}
+use Rattle.lives.specs.Life.{Sound, Life, idle, waiting, running, age, runs, up, rise, finish, release, start, Allowed, Next, WithinC, InTime, OnTime}
 
 -- The nine outcomes.
 pub data Step (row : Row) (top : ℕ) : Life → Life → Type 0 where
@@ -17,7 +18,7 @@ pub data Step (row : Row) (top : ℕ) : Life → Life → Type 0 where
   finished-released : {a r : ℕ} → row .T ≤ up top a → Step row top (running a r) (waiting 0)
   finished-released-started : {a r : ℕ} → row .T ≤ up top a → Step row top (running a r) (running 0 0)
 
-by-bits : (row : Row) (top : ℕ) (x : Life) (f r s : Bool) → Good row x → Allowed row (rise top x) f r s
+by-bits : (row : Row) (top : ℕ) (x : Life) (f r s : Bool) → WithinC row x → Allowed row (rise top x) f r s
     → Step row top x (start s (release r (finish f (rise top x))))
 by-bits row top (idle a) true r s g h = absurd (omega (arith, h .wasRunning refl))
 by-bits row top (idle a) false false false g h = still-idle
@@ -36,7 +37,7 @@ by-bits row top (running a n) true false false g h = finished
 by-bits row top (running a n) true true false g h = finished-released {a = a} (omega (arith, h .due refl))
 by-bits row top (running a n) true true true g h = finished-released-started {a = a} (omega (arith, h .due refl))
 
-pub step : {row : Row} {top : ℕ} {x y : Life} → Good row x → Next row top x y → Step row top x y
+pub step : {row : Row} {top : ℕ} {x y : Life} → WithinC row x → Next row top x y → Step row top x y
 step {row} {top} {x} {y} g h = subst (Step row top x) (h .lands) (by-bits row top x (h .finished) (h .released) (h .started) g (h .allowed))
 
 -- The ticks that the job can still run after this state.
@@ -65,16 +66,16 @@ facts v finished = same (omega arith) (omega arith)
 facts v (finished-released e) = new (omega arith) (omega arith) (omega arith)
 facts v (finished-released-started e) = new (omega arith) (omega arith) (omega arith)
 
-good : {row : Row} {top : ℕ} {x y : Life} → Sound row → Step row top x y → Good row y
-good v still-idle = tt
-good v (released e) = tt
-good v (released-started e) = omega arith
-good v still-waiting = tt
-good v started = omega arith
-good v (still-running l) = l
-good v finished = tt
-good v (finished-released e) = tt
-good v (finished-released-started e) = omega arith
+within : {row : Row} {top : ℕ} {x y : Life} → Sound row → Step row top x y → WithinC row y
+within v still-idle = tt
+within v (released e) = tt
+within v (released-started e) = omega arith
+within v still-waiting = tt
+within v started = omega arith
+within v (still-running l) = l
+within v finished = tt
+within v (finished-released e) = tt
+within v (finished-released-started e) = omega arith
 
-pub stays-good : {row : Row} {top : ℕ} {x y : Life} → Sound row → Good row x → Next row top x y → Good row y
-stays-good v g h = good v (step g h)
+pub stays-within : {row : Row} {top : ℕ} {x y : Life} → Sound row → WithinC row x → Next row top x y → WithinC row y
+stays-within v g h = within v (step g h)

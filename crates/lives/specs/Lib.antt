@@ -1,3 +1,4 @@
+pub mod Report
 pub mod Life
 pub mod Style
 pub mod Test

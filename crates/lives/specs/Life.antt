@@ -1,26 +1,17 @@
--- One task alone: its three numbers, its life (idle, waiting or running; its age; how long its job has run), and what one accepted tick may do to
+-- One task alone: its life (idle, waiting or running; its age; how long its job has run), and what one accepted tick may do to
 -- that life. This is "One tick" of document 01 with refusals 10 to 13, read for a single task.
 use mathlib.Core.Path.{_≡_}
 use mathlib.Core.Logic.{_≢_}
 use mathlib.Core.Bool.{Bool, true, false, cond}
-use Prim.Native.Nat.{ℕ, suc, _+_, _-_, _≤_, _<_, min}
+use Prim.Native.Nat.{ℕ, suc, _+_, _≤_, _<_, min}
 use Rattle.maths.specs.Sums.{sum}
-
--- deadline, period and longest run
-pub record Row : Type 0 where
-  pub D : ℕ
-  pub T : ℕ
-  pub C : ℕ
+use Rattle.lives.specs.Report.{Row, slack}
 
 -- neither 5, 6 nor 7 refuses the row
 pub record Sound (row : Row) : Type 0 where
   pub some : 1 ≤ row .C
   pub fits : row .C ≤ row .D
   pub constrained : row .D ≤ row .T
-
--- S of the report
-abbrev pub slack : Row → ℕ
-slack row = row .D - row .C
 
 -- each with its age; a running job also with the ticks that it has run
 pub data Life : Type 0 where
@@ -108,10 +99,10 @@ abbrev pub InRow : Row → ℕ → (ℕ → Life) → ℕ → Type 0
 InRow row top x w = (e : ℕ) → suc e < w → Next row top (x e) (x (suc e))
 
 -- of the conditions of a state, the one that the theory needs: a running job has run C - 1 ticks at most
-abbrev pub Good : Row → Life → Type 0
-Good row (idle a) = Unit {0}
-Good row (waiting a) = Unit {0}
-Good row (running a r) = r < row .C
+abbrev pub WithinC : Row → Life → Type 0
+WithinC row (idle a) = Unit {0}
+WithinC row (waiting a) = Unit {0}
+WithinC row (running a r) = r < row .C
 
 -- The job, if there is one, can still be started in time, or was.
 abbrev pub InTime : Row → Life → Type 0

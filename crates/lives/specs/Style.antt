@@ -4,14 +4,15 @@ use mathlib.Core.Path.{_≡_}
 use Prim.Native.Nat.{ℕ, suc, _+_, _≤_, _<_}
 use Rattle.maths.specs.Sums.{sum}
 use Rattle.maths.specs.Tasks.{Each}
-use Rattle.lives.specs.Life.{Row, Sound, slack, Life, idle, waiting, age, idles, waits, runs, count, Next, InRow, Good, InTime}
+use Rattle.lives.specs.Report.{Row, slack}
+use Rattle.lives.specs.Life.{Sound, Life, idle, waiting, age, idles, waits, runs, count, Next, InRow, WithinC, InTime}
 
 -- The report's problem window of task k: S states y 0, y 1, .. from the one that k's job is released in, in all of which that job waits.
 pub record Problem (n : ℕ) (rows : ℕ → Row) (top : ℕ → ℕ) (Starts : ℕ → (ℕ → Life) → Type 0) (k : ℕ) (y : ℕ → ℕ → Life) : Type 0 where
   pub waited : (e : ℕ) → e < slack (rows k) → y e k ≡ waiting e
   pub starts : (e : ℕ) → e < slack (rows k) → Starts k (y e)
   pub next : Each n (λ i. InRow (rows i) (top i) (λ e. y e i) (slack (rows k)))
-  pub good : Each n (λ i. Good (rows i) (y 0 i))
+  pub within : Each n (λ i. WithinC (rows i) (y 0 i))
   pub inTime : Each n (λ i. InTime (rows i) (y 0 i))
 
 -- A style, on a sound table that passes the style's test.
@@ -26,8 +27,8 @@ pub record Style (n : ℕ) (rows : ℕ → Row) (top : ℕ → ℕ) : Type 1 whe
   -- I of the report: how many states of k's problem window task i can run in
   pub charge : ℕ → ℕ → ℕ
   pub charged : Each n (λ k. (y : ℕ → ℕ → Life) → Problem n rows top Starts k y → Each n (λ i. count (λ e. y e i) (slack (rows k)) ≤ charge k i))
-  -- the test: tasks that run in no more states than they are charged for leave one of S states that is not full
-  pub passed : Each n (λ k. (r : ℕ → ℕ → ℕ) → Each n (λ i. sum (λ e. r e i) (slack (rows k)) ≤ charge k i)
+  -- the test: tasks that run (1 or 0 each) in no more states than they are charged for leave one of S states that is not full
+  pub passed : Each n (λ k. (r : ℕ → ℕ → ℕ) → ((e : ℕ) → Each n (λ i. r e i ≤ 1)) → Each n (λ i. sum (λ e. r e i) (slack (rows k)) ≤ charge k i)
       → ((e : ℕ) → e < slack (rows k) → Full k (r e)) → ⊥)
 
 -- States x 0 to x N, the first one fresh, each other one after a tick of the style.

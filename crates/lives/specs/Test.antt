@@ -1,31 +1,25 @@
--- The report's second test, theorem 2 multiplied by M × B, with the interference of its equation 3; and what its lemma 1 says of a state.
-use Prim.Native.Nat.{ℕ, _+_, _*_, _/_, _≤_, _<_, max}
+-- What lemma 1 of the report says of a state in which a task waits, what such a state weighs, and a test by weights: the proof of the second test without time.
+use Prim.Native.Nat.{ℕ, _*_, _≤_, _<_}
 use Rattle.maths.specs.Sums.{Σ}
 use Rattle.maths.specs.Tasks.{Each}
-use Rattle.lives.specs.Life.{Row, Sound, slack}
+use Rattle.lives.specs.Report.{Row, slack, interferenceOf}
 
 -- Of n tasks, of which i asks for A i partitions and runs r i times (1 or 0), all M cores are busy, or B partitions are.
 pub data Full (n M B : ℕ) (A r : ℕ → ℕ) : Type 0 where
   busyCores : M ≤ Σ n r → Full n M B A r
   busyCache : B ≤ Σ n (λ i. A i * r i) → Full n M B A r
 
--- the weight of a task that asks for a partitions
-abbrev pub weight : ℕ → ℕ → ℕ → ℕ
-weight M B a = max B (M * a)
+-- Where task i weighs w i, the tasks that run in a full state weigh `scale` together, or more.
+abbrev pub Heavy : (n scale : ℕ) (w : ℕ → ℕ) → ((ℕ → ℕ) → Type 0) → Type 0
+Heavy n scale w IsFull = (r : ℕ → ℕ) → Each n (λ i. r i ≤ 1) → IsFull r → scale ≤ Σ n (λ i. w i * r i)
 
--- where task i is charged I i, and the slack is S: the margin, limit less load, is above 0
-abbrev pub Passes : (n M B : ℕ) → (A I : ℕ → ℕ) → ℕ → Type 0
-Passes n M B A I S = Σ n (λ i. weight M B (A i) * I i) < M * B * S
+-- Where task i is charged I i, all charges together weigh less than S full states.
+abbrev pub Light : (n scale : ℕ) (w I : ℕ → ℕ) (S : ℕ) → Type 0
+Light n scale w I S = Σ n (λ i. w i * I i) < scale * S
 
--- equation 3, in a window of w states
-abbrev pub equation3 : Row → ℕ → ℕ
-equation3 row w = (w / row .T + 2) * row .C
-
--- I of task i on task k
-abbrev pub interference : (ℕ → Row) → ℕ → ℕ → ℕ
-interference rows k i = equation3 (rows i) (slack (rows k))
-
--- a sound table, all of whose tasks pass
-pub record Admitted (n M : ℕ) (B A : ℕ → ℕ) (rows : ℕ → Row) : Type 0 where
-  pub sound : Each n (λ i. Sound (rows i))
-  pub passes : Each n (λ k. Passes n M (B k) A (interference rows k) (slack (rows k)))
+-- A test by weights that each of n tasks passes: for task k, task i weighs `weight k i`.
+pub record Weighed (n : ℕ) (rows : ℕ → Row) (IsFull : ℕ → (ℕ → ℕ) → Type 0) : Type 0 where
+  pub scale : ℕ → ℕ
+  pub weight : ℕ → ℕ → ℕ
+  pub heavy : Each n (λ k. Heavy n (scale k) (weight k) (IsFull k))
+  pub light : Each n (λ k. Light n (scale k) (weight k) (interferenceOf rows k) (slack (rows k)))

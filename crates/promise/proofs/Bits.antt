@@ -3,7 +3,8 @@ use Prim.Native.Nat.{ℕ}
 use mathlib.Core.Path.{_≡_, refl}
 use mathlib.Core.Bool.{Bool, true, false}
 use native.Mathlib.Omega.{arith}
-use Rattle.lives.specs.Life.{Row, Life, idle, waiting, running, age, idles, waits, rise, finish, release, start, Allowed}
+use Rattle.lives.specs.Report.{Row}
+use Rattle.lives.specs.Life.{Life, idle, waiting, running, age, idles, waits, rise, finish, release, start, Allowed}
 
 -- the life after the tick
 abbrev pub led : ℕ → Life → Bool → Bool → Bool → Life

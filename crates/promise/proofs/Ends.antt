@@ -6,16 +6,17 @@ use mathlib.Core.List.{List}
 use native.Mathlib.Decide.{decLt}
 use native.Mathlib.Omega.{arith}
 use Rattle.table.specs.declared.Table.{Table}
-use Rattle.table.specs.Tasks.{D}
-use Rattle.lives.specs.Life.{Row, Life, age, idles}
+use Rattle.admission.specs.Test.{rows}
+use Rattle.lives.specs.Life.{Life, age, idles}
 use Rattle.lives.specs.Style.{Unfinished}
 use Rattle.lives.proofs.Ages.{ends-below-deadline}
 use Rattle.promise.specs.Sequences.{Report, Sequence, sequence, count, releases, finishes, starts}
-use Rattle.promise.specs.Promise.{InDeadline, Finished, Admitted}
+use Rattle.promise.specs.Promise.{InDeadline, Finished}
+use Rattle.promise.proofs.Safe.{tops, Safe}
 use Rattle.promise.proofs.Bits.{comes-age, was, finishes-there}
-use Rattle.promise.proofs.Course.{rows, tops, lives, same-row, says, does, course}
+use Rattle.promise.proofs.Course.{lives, says, does, course}
 
-module _ (t : Table) (a : Admitted t) (xs : List Report) (k : ℕ) (p : 1 ≤ k) (q : k ≤ t .n) where
+module _ (t : Table) (a : Safe t) (xs : List Report) (k : ℕ) (p : 1 ≤ k) (q : k ≤ t .n) where
   abbrev s : Sequence
   s = sequence t xs
 
@@ -80,4 +81,4 @@ module _ (t : Table) (a : Admitted t) (xs : List Report) (k : ℕ) (p : 1 ≤ k)
       let later : i < j = o .1 .part .later in
       let short : suc (j - suc i) < rows t k .D =
       ends-below-deadline (course t a xs) k p q (suc i) (j - suc i) (omega arith) (unfinished i j (omega arith) (o .1)) in
-      (i, o .1 .part, omega (arith, ap (λ (r : Row). r .D) (same-row t a xs k p q)))
+      (i, o .1 .part, omega arith)

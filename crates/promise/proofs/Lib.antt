@@ -1,6 +1,7 @@
 -- Demand 3, proved.
 pub mod Following
 pub mod Bits
+pub mod Safe
 pub mod Test
 pub mod States
 pub mod Course
@@ -10,4 +11,3 @@ pub mod Times
 pub mod Demand3
 pub mod Time
 pub mod Calls
-pub mod Contracts

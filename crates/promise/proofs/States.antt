@@ -15,8 +15,7 @@ use Rattle.machine.proofs.StateTest.{state-good}
 use Rattle.conduct.specs.Conduct.{Conduct}
 use Rattle.conduct.proofs.Laws.{conduct}
 use Rattle.promise.specs.Sequences.{Report, told, Step, Sequence, sequence, count, tickAt, state}
-use Rattle.promise.specs.Promise.{Admitted}
-use Rattle.promise.proofs.Test.{not-refused}
+use Rattle.promise.proofs.Safe.{Safe}
 use Rattle.promise.proofs.Following.{Follows, following}
 
 -- A step from state m is an accepted tick: by the table of t with its entries past n zero, if m has that.
@@ -26,9 +25,9 @@ step-conduct t m st same f =
     let long : length (m .table .rows) ≡ mostTasks = rw same (length-tabulate _ mostTasks) in
     rw (f .after, f .answer)
     (subst (λ (u : Table). Conduct u m (told m (st .report) .machine) (st .report .released) (st .report .finished) (told m (st .report) .answer .started)) same
-    (conduct m (st .report .released) (st .report .finished) long (f .accepted)))
+    (conduct m (st .report .released) (st .report .finished) long (f .taken)))
 
-module _ (t : Table) (a : Admitted t) (xs : List Report) where
+module _ (t : Table) (a : Safe t) (xs : List Report) where
   abbrev s : Sequence
   s = sequence t xs
 
@@ -51,7 +50,7 @@ module _ (t : Table) (a : Admitted t) (xs : List Report) where
     pub good : GoodState m
 
   pub sound : (i : ℕ) → i ≤ count s → Sound (state s i)
-  sound zero l = record { same = same zero l; good = fresh-state t (not-refused t a) (a .whole) }
+  sound zero l = record { same = same zero l; good = fresh-state t (a .unrefused) (a .whole) }
   sound (suc i) l =
       let long : length (state s (suc i) .table .rows) ≡ mostTasks = rw (same (suc i) l) (length-tabulate _ mostTasks) in
       record { same = same (suc i) l; good = state-good (state s (suc i)) long (conducts i l .good) }

@@ -24,6 +24,7 @@ use Rattle.conduct.proofs.Laws.{tick-refusal}
 use Rattle.promise.specs.Sequences.{Report, steps, sequence, state}
 use Rattle.promise.specs.Promise.{Admitted}
 use Rattle.promise.specs.Time.{p1, Contended, GoesOn}
+use Rattle.promise.proofs.Test.{safe}
 use Rattle.promise.proofs.States.{sound}
 
 p1-verdict : quickAnswer p1 .admitted ≡ true
@@ -32,10 +33,10 @@ p1-verdict = refl
 
 pub contended : Contended
 unfolding steps tick tickRefusal firstGiven tickRules goodState goodJob forTasks startWaiting fresh running busy sum every lowest tabulate tableRules rowRules rowsFrom refusal size members setOf setWhere unionOf allApart choice
-contended = record { admitted = record { whole = refl; verdict = p1-verdict }; accepted = refl; started = refl; waits = refl }
+contended = record { admitted = record { whole = refl; verdict = p1-verdict }; oneTick = refl; started = refl; waits = refl }
 
 pub time-goes-on : (t : Table) → Admitted t → (reports : List Report) → GoesOn (sequence t reports)
 time-goes-on t a xs i l =
     let m = state (sequence t xs) i in
-    let ok = goes-on m (sound t a xs i l .good) in
+    let ok = goes-on m (sound t (safe t a) xs i l .good) in
     (record { released = 0; finished = overSet m }, ap (λ (r : Refusal). r .number) (tick-refusal m 0 (overSet m)) ∙ eqb-true _ 0 ok)

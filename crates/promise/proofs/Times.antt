@@ -12,28 +12,31 @@ use Rattle.table.specs.Limits.{mostTasks}
 use Rattle.table.specs.Tasks.{τ, D, T}
 use Rattle.sets.specs.TaskSets.{hasTask}
 use Rattle.sets.proofs.Wheres.{where-empty}
+use Rattle.admission.specs.Test.{row, rows}
+use Rattle.machine.specs.declared.Job.{Job}
 use Rattle.machine.specs.declared.Machine.{Machine}
-use Rattle.machine.specs.Jobs.{job, idles}
+use Rattle.machine.specs.Jobs.{job, top, idles}
 use Rattle.machine.specs.Steps.{finish, passed, lateSet}
 use Rattle.machine.specs.Tick.{tickRefusal}
 use Rattle.machine.proofs.Jobs.{passed-job, finished-job, finished-table}
 use Rattle.machine.proofs.StateParts.{Staged}
 use Rattle.lives.specs.Life as L
-use Rattle.lives.specs.Life.{Life, Sound, Good, OnTime}
+use Rattle.lives.specs.Report.{Row}
+use Rattle.lives.specs.Life.{Life, Sound, WithinC, OnTime}
 use Rattle.lives.proofs.OnTime as on-time
-use Rattle.conduct.specs.Lives.{row, life}
-use Rattle.conduct.proofs.Accepted.{never-13}
+use Rattle.conduct.specs.Lives.{life}
+use Rattle.machine.proofs.Accepted.{never-13}
 use Rattle.conduct.proofs.Lives.{one-true, shows, life-older, finished-staged, life-finished}
 use Rattle.promise.proofs.Bits.{unfinished}
 
--- each life of m is on time, by the table u
-pub record Timely (u : Table) (m : Machine) (k : ℕ) : Type 0 where
-  pub sound : Sound (row (τ u k))
-  pub good : Good (row (τ u k)) (life (job m k))
-  pub onTime : OnTime (row (τ u k)) (life (job m k))
-  pub staged : Staged (job m k .stage)
+-- the life of a job is on time, by what the table says of its task
+pub record Timely (task : Row) (j : Job) : Type 0 where
+  pub sound : Sound task
+  pub within : WithinC task (life j)
+  pub onTime : OnTime task (life j)
+  pub staged : Staged (j .stage)
 
-module _ (m : Machine) (few : m .table .n ≤ mostTasks) (timely : Each (m .table .n) (Timely (m .table) m)) where
+module _ (m : Machine) (few : m .table .n ≤ mostTasks) (timely : Each (m .table .n) (λ k. Timely (rows (m .table) k) (job m k))) where
   module _ (k : ℕ) (p : 1 ≤ k) (q : k ≤ m .table .n) (F : ℕ) where
     abbrev t : Table
     t = m .table
@@ -42,7 +45,7 @@ module _ (m : Machine) (few : m .table .n ≤ mostTasks) (timely : Each (m .tabl
     x = life (job m k)
 
     -- the life after step 2
-    is : life (job (finish F (passed m)) k) ≡ L.finish (hasTask F k) (L.rise (T (τ t k)) x)
+    is : life (job (finish F (passed m)) k) ≡ L.finish (hasTask F k) (L.rise (top (τ t k)) x)
     is = ap life (finished-job m k p q (omega arith) F) ∙ life-finished (τ t k) (hasTask F k) (job m k)
 
     staged : Staged (job (finish F (passed m)) k .stage)
@@ -50,16 +53,16 @@ module _ (m : Machine) (few : m .table .n ≤ mostTasks) (timely : Each (m .tabl
 
     young : idles (finish F (passed m)) k ≡ false → job (finish F (passed m)) k .age < D (τ t k)
     young e =
-        let there : L.idles (L.finish (hasTask F k) (L.rise (T (τ t k)) x)) ≡ 0 =
+        let there : L.idles (L.finish (hasTask F k) (L.rise (top (τ t k)) x)) ≡ 0 =
         sym (ap L.idles is) ∙ (shows (job (finish F (passed m)) k) .idles staged ∙ rw e) in
-        let b = unfinished (row (τ t k)) (T (τ t k)) x (hasTask F k) there in
+        let b = unfinished (row (τ t k)) (top (τ t k)) x (hasTask F k) there in
         let g = timely k p q in
         omega (
           arith,
           shows (job (finish F (passed m)) k) .age,
           ap L.age is,
           b .1,
-          on-time.not-late (row (τ t k)) (T (τ t k)) (g .sound) x (g .good) (g .onTime) (b .0),
+          on-time.not-late (row (τ t k)) (top (τ t k)) (g .sound) x (g .within) (g .onTime) (b .0),
         )
 
     not-late-task : (d : ℕ) → d ≡ D (τ t k)
@@ -74,10 +77,10 @@ module _ (m : Machine) (few : m .table .n ≤ mostTasks) (timely : Each (m .tabl
     -- a task of age T or more after step 1 has no unfinished job
     idle-at-T : T (τ t k) ≤ job (passed m) k .age → idles (finish F (passed m)) k ≡ true
     idle-at-T l =
-        let older : life (job (passed m) k) ≡ L.rise (T (τ t k)) x = ap life (passed-job m k p q (omega arith)) ∙ life-older (τ t k) (job m k) in
-        let old : T (τ t k) ≤ L.age (L.rise (T (τ t k)) x) = omega (arith, shows (job (passed m) k) .age, ap L.age older) in
+        let older : life (job (passed m) k) ≡ L.rise (top (τ t k)) x = ap life (passed-job m k p q (omega arith)) ∙ life-older (τ t k) (job m k) in
+        let old : T (τ t k) ≤ L.age (L.rise (top (τ t k)) x) = omega (arith, shows (job (passed m) k) .age, ap L.age older) in
         let g = timely k p q in
-        let i = on-time.never-13 (row (τ t k)) (T (τ t k)) (g .sound) x (hasTask F k) (g .good) (g .onTime) old in
+        let i = on-time.never-13 (row (τ t k)) (top (τ t k)) (g .sound) x (hasTask F k) (g .within) (g .onTime) old in
         one-true (idles (finish F (passed m)) k) (sym (shows (job (finish F (passed m)) k) .idles staged) ∙ (ap L.idles is ∙ i))
 
   pub no-late : (F : ℕ) → lateSet m (finish F (passed m)) ≡ 0

@@ -6,13 +6,15 @@ use mathlib.Core.List.{List}
 use native.Mathlib.Decide.{ℕ-discrete}
 use native.Mathlib.Omega.{arith}
 use Rattle.table.specs.declared.Table.{Table}
-use Rattle.lives.specs.Life.{Life, slack, age, ran, idles, waits, runs}
+use Rattle.admission.specs.Test.{rows}
+use Rattle.lives.specs.Life.{Life, age, ran, idles, waits, runs}
 use Rattle.lives.specs.Style.{Unfinished}
 use Rattle.lives.proofs.Ages.{waits-below-slack, runs-below-slack}
 use Rattle.promise.specs.Sequences.{Report, Sequence, sequence, count, releases, finishes, starts}
-use Rattle.promise.specs.Promise.{InSlack, Admitted}
+use Rattle.promise.specs.Promise.{InSlack}
+use Rattle.promise.proofs.Safe.{tops, Safe}
 use Rattle.promise.proofs.Bits.{led, comes-age, waits-on}
-use Rattle.promise.proofs.Course.{rows, tops, lives, same-row, says, does, course}
+use Rattle.promise.proofs.Course.{lives, says, does, course}
 
 -- a job that waits or runs is there
 waits-there : (x : Life) → waits x ≡ 1 → idles x ≡ 0
@@ -20,7 +22,7 @@ waits-there (Life.idle a) w = absurd (omega arith)
 waits-there (Life.waiting a) w = refl
 waits-there (Life.running a r) w = refl
 
-module _ (t : Table) (a : Admitted t) (xs : List Report) (k : ℕ) (p : 1 ≤ k) (q : k ≤ t .n) where
+module _ (t : Table) (a : Safe t) (xs : List Report) (k : ℕ) (p : 1 ≤ k) (q : k ≤ t .n) where
   abbrev s : Sequence
   s = sequence t xs
 
@@ -72,7 +74,7 @@ module _ (t : Table) (a : Admitted t) (xs : List Report) (k : ℕ) (p : 1 ≤ k)
       waits-short none =
           let w : waits (x (suc j)) ≡ 1 = waiting j h l none in
           let job = unfinished j h l (λ d u v. none d u (omega arith)) (waits-there (x (suc j)) w) in
-          omega (arith, waits-below-slack (course t a xs) k p q (suc i) (j - i) (omega arith) job (rw at w), ap slack (same-row t a xs k p q))
+          omega (arith, waits-below-slack (course t a xs) k p q (suc i) (j - i) (omega arith) job (rw at w))
 
       pub starts-short : ((e : ℕ) → i ≤ e → e < j → starts s e k ≡ false) → starts s j k ≡ true → InSlack t k (j - i)
       starts-short none go =
@@ -82,8 +84,4 @@ module _ (t : Table) (a : Admitted t) (xs : List Report) (k : ℕ) (p : 1 ≤ k)
           let z : ran (x (suc j)) ≡ 0 = sym (ap ran is) ∙ rw go in
           let z′ : ran (x (suc i + (j - i))) ≡ 0 = rw at z in
           let job = unfinished j h l none (sym (ap idles is) ∙ rw go) in
-          omega (
-            arith,
-            runs-below-slack (course t a xs) k p q (suc i) (j - i) (omega arith) job (rw at r),
-            ap slack (same-row t a xs k p q),
-          )
+          omega (arith, runs-below-slack (course t a xs) k p q (suc i) (j - i) (omega arith) job (rw at r))

@@ -13,7 +13,7 @@ use Rattle.table.specs.Limits.{mostTasks}
 use Rattle.table.specs.Tasks.{τ, D, C}
 use Rattle.admission.specs.Answers.{quickAnswer}
 use Rattle.sets.specs.Sets.{has}
-use Rattle.machine.specs.Jobs.{job}
+use Rattle.machine.specs.Jobs.{held}
 use Rattle.promise.specs.Sequences.{Report, told, Sequence, sequence, count, tickAt, state, releases, finishes, starts}
 
 -- w ticks are fewer than the slack D - C of task k
@@ -43,7 +43,7 @@ pub record Kept (t : Table) (s : Sequence) : Type 0 where
   pub not13 : (i : ℕ) → i ≤ count s → (x : Report) → told (state s i) x .answer .refused .number ≢ 13
   -- 4. In no state does a partition p have two holders k and l,
   pub alone : (i : ℕ) → i ≤ count s → (p : ℕ) → Each (t .n) (λ k. Each (t .n) (λ l.
-      has (job (state s i) k .held) p ≡ true → has (job (state s i) l .held) p ≡ true → k ≡ l))
+      has (held (state s i) k) p ≡ true → has (held (state s i) l) p ≡ true → k ≡ l))
   -- and every job that is finished was released before, less than D ticks ago.
   pub ends : Each (t .n) (λ k. (j : ℕ) → j < count s → finishes s j k ≡ true → (i : ℕ) × (Finished s k i j) × InDeadline t k (j - i))
 

@@ -29,7 +29,7 @@ all3 = record { released = 7; finished = 0 }
 
 pub record Contended : Type 0 where
   pub admitted : Admitted p1
-  pub accepted : count (sequence p1 (all3 ∷ [])) ≡ 1
+  pub oneTick : count (sequence p1 (all3 ∷ [])) ≡ 1
   pub started : tickAt (sequence p1 (all3 ∷ [])) 0 .answer .started ≡ 3
   pub waits : waits (state (sequence p1 (all3 ∷ [])) 1) 3 ≡ true
 

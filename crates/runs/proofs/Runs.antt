@@ -16,7 +16,7 @@ use Rattle.readers.proofs.Ticks.{Rest, ticks-start, ticks-next, ticks-end}
 use Rattle.writers.specs.Outputs.{listing}
 use Rattle.runs.specs.declared.Run.{Run}
 use Rattle.runs.specs.Ticks.{tickWith, runRow, counted, runRows, runText}
-use Rattle.runs.specs.Runs.{ticksIn, GoodTicks, runStart, runOn}
+use Rattle.runs.specs.Code.Runs.{ticksIn, GoodTicks, runStart, runOn}
 
 abbrev pub header : List ℕ
 header = bytes "tick,refused,finished,late,started" ++ crlf

@@ -9,7 +9,8 @@ use borrow.Author.Tests.{le-leb, lt-leb}
 use lib.ListN.{length, take}
 use lib.Seq.{take-all}
 use Rattle.writers.specs.declared.Room.{Room}
-use Rattle.writers.specs.Written.{roomFor, Put, Added}
+use Rattle.writers.specs.Written.{roomFor, Added}
+use Rattle.writers.specs.Code.Put.{Put}
 use Rattle.writers.proofs.Wholes.{fits-is, long-is}
 
 module _ (buffer : List ℕ) (at : ℕ) (text : List ℕ) where

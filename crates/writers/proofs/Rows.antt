@@ -10,15 +10,11 @@ use Rattle.maths.proofs.Lists.{front}
 use Rattle.forms.specs.Bytes.{comma}
 use Rattle.forms.specs.Digits.{digits}
 use Rattle.forms.specs.Forms.{ending, line}
-use Rattle.forms.proofs.Digits.{width-some}
+use Rattle.forms.proofs.Lines.{ending-more}
 use Rattle.writers.specs.declared.Room.{Room}
 use Rattle.writers.specs.Written.{roomFor}
 use Rattle.writers.proofs.Puts.{sets-append}
 use Rattle.writers.proofs.Rooms.{room-more, room-stop, room-none}
-
-pub ending-more : (left : ℕ) → (left ≡ 0 → ⊥) → ending left ≡ comma ∷ []
-ending-more zero h = absurd (h refl)
-ending-more (suc left) h = refl
 
 pub cell-last : (n left : ℕ) → left ≡ 0 → length (digits n ++ ending left) ≡ length (digits n) + 2
 cell-last n left e = length-append (digits n) (ending left) ∙ rw e

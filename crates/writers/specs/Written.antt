@@ -42,17 +42,16 @@ pub record WroteBoth (a b first second : List ℕ) (answer : TextsWritten) (afte
   pub holds₁ : after₁ ≡ cond (bothFit a b first second) (a ++ drop (length a) first) first
   pub holds₂ : after₂ ≡ cond (bothFit a b first second) (b ++ drop (length b) second) second
 
+-- no row has more numbers: `WIDEST`, of the listing of ticks
+abbrev pub widest : ℕ
+widest = 5
+
 -- whether a text fits, and how much room it leaves
 unfoldable pub roomFor : List ℕ → ℕ → Room
 roomFor text room =
     cond (leb (length text) room)
     (record { enough = true; left = room - length text })
     (record { enough = false; left = 0 })
-
--- a text put into a buffer from a place on: the place behind it, and what the buffer then holds
-pub record Put (buffer : List ℕ) (at : ℕ) (text : List ℕ) (next : ℕ) (after : List ℕ) : Type 0 where
-  pub behind : next ≡ at + length text
-  pub holds : after ≡ sets buffer at text
 
 -- a text put only if it has room from its place on
 abbrev pub fitsAt : List ℕ → ℕ → List ℕ → Bool

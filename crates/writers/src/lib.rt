@@ -4,11 +4,12 @@ ghost use mathlib.Core.Path.{_≡_};
 ghost use mathlib.Core.List.{[], _∷_, _++_};
 ghost use lib.ListN.{length, take};
 ghost use Rattle.forms.specs.Digits.{digits};
-ghost use Rattle.forms.specs.Forms.{ending, line};
-ghost use Rattle.writers.specs.Outputs.{platformRow, platformText, taskRow, tasksText, ticksText, refusedText, marginsText};
+ghost use Rattle.forms.specs.Forms.{columns, platformForm, tasksForm, ticksForm, ending, line};
+ghost use Rattle.writers.specs.Outputs.{platformRow, platformText, taskRow, tasksText, reportsText, refusedRow, refusedText, marginsText};
 ghost use Rattle.table.specs.Limits.{mostTasks};
 ghost use Rattle.writers.specs.Signed.{marginOf, sign, marginRow};
-ghost use Rattle.writers.specs.Written.{Put, roomFor, tooShort, Wrote, WroteBoth, Added};
+ghost use Rattle.writers.specs.Written.{widest, roomFor, tooShort, Wrote, WroteBoth, Added};
+ghost use Rattle.writers.specs.Code.Put.{Put};
 ghost use Rattle.table.specs.Refused.{noRefusal};
 use table::Platform;
 use table::Refusal;
@@ -26,6 +27,18 @@ pub struct Room {
     pub enough: bool,
     pub left: usize,
 }
+
+// The most numbers that a row has.
+pub const WIDEST: usize = 5;
+
+// The columns of a platform text, of a tasks text and of a ticks text, and of the listing of a refusal.
+const PLATFORM: usize = 2;
+
+const TASK: usize = 4;
+
+const TICK: usize = 2;
+
+const REFUSED: usize = 2;
 
 // How many digits a number has.
 fn width(n: u64) -> usize
@@ -114,8 +127,8 @@ fn cell_room(n: u64, left: usize, room: usize) -> Room
 }
 
 // A row of the first numbers, so many as there are columns.
-fn put_row(buf: &mut [u8], at: usize, numbers: [u64; 5], columns: usize) -> usize
-    requires { ⌜ (columns ≤ 5) × (at + length (line (take columns numbers)) ≤ length (now buf)) ⌝ }
+fn put_row(buf: &mut [u8], at: usize, numbers: [u64; WIDEST], columns: usize) -> usize
+    requires { ⌜ (columns ≤ widest) × (at + length (line (take columns numbers)) ≤ length (now buf)) ⌝ }
     ensures { λ r. ⌜ Put (now (buf .entry)) at (line (take columns numbers)) r (now (buf .exit)) ⌝ }
 {
     let mut next = at;
@@ -127,8 +140,8 @@ fn put_row(buf: &mut [u8], at: usize, numbers: [u64; 5], columns: usize) -> usiz
     next
 }
 
-fn row_room(numbers: [u64; 5], columns: usize, room: usize) -> Room
-    requires { ⌜ columns ≤ 5 ⌝ }
+fn row_room(numbers: [u64; WIDEST], columns: usize, room: usize) -> Room
+    requires { ⌜ columns ≤ widest ⌝ }
     ensures { λ r. ⌜ r ≡ roomFor (line (take columns numbers)) room ⌝ }
 {
     let mut left = room;
@@ -185,8 +198,8 @@ impl Written {
     }
 }
 
-fn one_room(header: &[u8], numbers: [u64; 5], columns: usize, room: usize) -> Room
-    requires { ⌜ columns ≤ 5 ⌝ }
+fn one_room(header: &[u8], numbers: [u64; WIDEST], columns: usize, room: usize) -> Room
+    requires { ⌜ columns ≤ widest ⌝ }
     ensures { λ r. ⌜ r ≡ roomFor (now (header .entry) ++ line (take columns numbers)) room ⌝ }
 {
     let head = word_room(header, room);
@@ -197,8 +210,8 @@ fn one_room(header: &[u8], numbers: [u64; 5], columns: usize, room: usize) -> Ro
 }
 
 // A header line and one row.
-fn write_one(buf: &mut [u8], header: &[u8], numbers: [u64; 5], columns: usize) -> Written
-    requires { ⌜ columns ≤ 5 ⌝ }
+fn write_one(buf: &mut [u8], header: &[u8], numbers: [u64; WIDEST], columns: usize) -> Written
+    requires { ⌜ columns ≤ widest ⌝ }
     ensures { λ r. ⌜ Wrote (now (header .entry) ++ line (take columns numbers)) (now (buf .entry)) r (now (buf .exit)) ⌝ }
 {
     let m = one_room(header, numbers, columns, buf.len());
@@ -210,10 +223,13 @@ fn write_one(buf: &mut [u8], header: &[u8], numbers: [u64; 5], columns: usize) -
     Written::whole(end)
 }
 
-fn platform_numbers(p: Platform) -> [u64; 5]
-    ensures { λ r. ⌜ take 2 r ≡ platformRow p ⌝ }
+fn platform_numbers(p: Platform) -> [u64; WIDEST]
+    ensures { λ r. ⌜ take (length (columns platformForm)) r ≡ platformRow p ⌝ }
 {
-    [p.cores.0 as u64, p.partitions.0 as u64, 0, 0, 0]
+    let mut numbers = [0u64; WIDEST];
+    numbers[0] = p.cores.0 as u64;
+    numbers[1] = p.partitions.0 as u64;
+    numbers
 }
 
 // The text of a platform.
@@ -221,21 +237,35 @@ pub fn write_platform(p: Platform, buf: &mut [u8]) -> Written
     ensures { λ r. ⌜ Wrote (platformText p) (now (buf .entry)) r (now (buf .exit)) ⌝ }
 {
     let numbers = platform_numbers(p);
-    write_one(buf, b"cores,partitions\r\n", numbers, 2)
+    write_one(buf, b"cores,partitions\r\n", numbers, PLATFORM)
+}
+
+fn refused_numbers(r: Refusal) -> [u64; WIDEST]
+    ensures { λ n. ⌜ take 2 n ≡ refusedRow r ⌝ }
+{
+    let mut numbers = [0u64; WIDEST];
+    numbers[0] = r.number as u64;
+    numbers[1] = r.row as u64;
+    numbers
 }
 
 // The listing of a refused table or text.
 pub fn write_refused(r: Refusal, buf: &mut [u8]) -> Written
     ensures { λ w. ⌜ Wrote (refusedText r) (now (buf .entry)) w (now (buf .exit)) ⌝ }
 {
-    let numbers = [r.number as u64, r.row as u64, 0, 0, 0];
-    write_one(buf, b"refused,row\r\n", numbers, 2)
+    let numbers = refused_numbers(r);
+    write_one(buf, b"refused,row\r\n", numbers, REFUSED)
 }
 
-fn task_numbers(t: Task) -> [u64; 5]
-    ensures { λ r. ⌜ take 4 r ≡ taskRow t ⌝ }
+fn task_numbers(t: Task) -> [u64; WIDEST]
+    ensures { λ r. ⌜ take (length (columns tasksForm)) r ≡ taskRow t ⌝ }
 {
-    [t.d as u64, t.t as u64, t.c as u64, t.a.0 as u64, 0]
+    let mut numbers = [0u64; WIDEST];
+    numbers[0] = t.d as u64;
+    numbers[1] = t.t as u64;
+    numbers[2] = t.c as u64;
+    numbers[3] = t.a.0 as u64;
+    numbers
 }
 
 fn fewer(a: usize, b: usize) -> usize
@@ -257,7 +287,7 @@ fn tasks_room(t: Table, room: usize) -> Room
     while i < n {
         let task = t.rows[i];
         let numbers = task_numbers(task);
-        let row = row_room(numbers, 4, left);
+        let row = row_room(numbers, TASK, left);
         if !row.enough {
             return row;
         }
@@ -280,7 +310,7 @@ fn put_tasks(buf: &mut [u8], t: Table) -> usize
     while i < n {
         let task = t.rows[i];
         let numbers = task_numbers(task);
-        next = put_row(buf, next, numbers, 4);
+        next = put_row(buf, next, numbers, TASK);
         i += 1;
     }
     next
@@ -435,14 +465,17 @@ pub fn write_margins(n: usize, margins: [i64; Table::MOST], buf: &mut [u8]) -> W
     Written::whole(end)
 }
 
-fn tick_numbers(released: u32, finished: u32) -> [u64; 5]
-    ensures { λ r. ⌜ take 2 r ≡ released ∷ finished ∷ [] ⌝ }
+fn tick_numbers(released: u32, finished: u32) -> [u64; WIDEST]
+    ensures { λ r. ⌜ take (length (columns ticksForm)) r ≡ released ∷ finished ∷ [] ⌝ }
 {
-    [released as u64, finished as u64, 0, 0, 0]
+    let mut numbers = [0u64; WIDEST];
+    numbers[0] = released as u64;
+    numbers[1] = finished as u64;
+    numbers
 }
 
 fn ticks_room(released: &[u32], finished: &[u32], room: usize) -> Room
-    ensures { λ r. ⌜ r ≡ roomFor (ticksText (now (released .entry)) (now (finished .entry))) room ⌝ }
+    ensures { λ r. ⌜ r ≡ roomFor (reportsText (now (released .entry)) (now (finished .entry))) room ⌝ }
 {
     let head = word_room(b"released,finished\r\n", room);
     if !head.enough {
@@ -453,7 +486,7 @@ fn ticks_room(released: &[u32], finished: &[u32], room: usize) -> Room
     let mut i: usize = 0;
     while i < n {
         let numbers = tick_numbers(released[i], finished[i]);
-        let row = row_room(numbers, 2, left);
+        let row = row_room(numbers, TICK, left);
         if !row.enough {
             return row;
         }
@@ -467,15 +500,15 @@ fn ticks_room(released: &[u32], finished: &[u32], room: usize) -> Room
 }
 
 fn put_ticks(buf: &mut [u8], released: &[u32], finished: &[u32]) -> usize
-    requires { ⌜ length (ticksText (now released) (now finished)) ≤ length (now buf) ⌝ }
-    ensures { λ r. ⌜ Put (now (buf .entry)) 0 (ticksText (now (released .entry)) (now (finished .entry))) r (now (buf .exit)) ⌝ }
+    requires { ⌜ length (reportsText (now released) (now finished)) ≤ length (now buf) ⌝ }
+    ensures { λ r. ⌜ Put (now (buf .entry)) 0 (reportsText (now (released .entry)) (now (finished .entry))) r (now (buf .exit)) ⌝ }
 {
     let n = fewer(released.len(), finished.len());
     let mut next = put_word(buf, 0, b"released,finished\r\n");
     let mut i: usize = 0;
     while i < n {
         let numbers = tick_numbers(released[i], finished[i]);
-        next = put_row(buf, next, numbers, 2);
+        next = put_row(buf, next, numbers, TICK);
         i += 1;
     }
     next
@@ -483,7 +516,7 @@ fn put_ticks(buf: &mut [u8], released: &[u32], finished: &[u32]) -> usize
 
 // The ticks text of the sets released and finished, tick by tick, as many as both slices have.
 pub fn write_ticks(released: &[u32], finished: &[u32], buf: &mut [u8]) -> Written
-    ensures { λ r. ⌜ Wrote (ticksText (now (released .entry)) (now (finished .entry))) (now (buf .entry)) r (now (buf .exit)) ⌝ }
+    ensures { λ r. ⌜ Wrote (reportsText (now (released .entry)) (now (finished .entry))) (now (buf .entry)) r (now (buf .exit)) ⌝ }
 {
     let m = ticks_room(released, finished, buf.len());
     if !m.enough {
@@ -518,7 +551,7 @@ pub fn write_texts(t: Table, platform: &mut [u8], tasks: &mut [u8]) -> TextsWrit
 {
     let p = t.platform;
     let numbers = platform_numbers(p);
-    let first = one_room(b"cores,partitions\r\n", numbers, 2, platform.len());
+    let first = one_room(b"cores,partitions\r\n", numbers, PLATFORM, platform.len());
     if !first.enough {
         return TextsWritten::short();
     }
@@ -536,10 +569,10 @@ pub fn write_texts(t: Table, platform: &mut [u8], tasks: &mut [u8]) -> TextsWrit
 }
 
 // What is left of some room behind a row of the first numbers, so many as there are columns.
-pub fn line_room(numbers: [u64; 5], columns: usize, room: usize) -> Room
+pub fn line_room(numbers: [u64; WIDEST], columns: usize, room: usize) -> Room
     ensures { λ r. ⌜ r ≡ roomFor (line (take columns numbers)) room ⌝ }
 {
-    row_room(numbers, fewer(columns, 5), room)
+    row_room(numbers, fewer(columns, WIDEST), room)
 }
 
 // The word at a place of the buffer, if it has room there, and the place behind it.
@@ -557,13 +590,13 @@ pub fn add_word(buf: &mut [u8], at: usize, word: &[u8]) -> usize
 }
 
 // A row at a place of the buffer, if it has room there, and the place behind it.
-pub fn add_line(buf: &mut [u8], at: usize, numbers: [u64; 5], columns: usize) -> usize
+pub fn add_line(buf: &mut [u8], at: usize, numbers: [u64; WIDEST], columns: usize) -> usize
     ensures { λ r. ⌜ Added (now (buf .entry)) at (line (take columns numbers)) r (now (buf .exit)) ⌝ }
 {
     if buf.len() < at {
         return at;
     }
-    let n = fewer(columns, 5);
+    let n = fewer(columns, WIDEST);
     let m = row_room(numbers, n, buf.len() - at);
     if !m.enough {
         return at;

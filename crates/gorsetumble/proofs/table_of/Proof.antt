@@ -29,7 +29,7 @@ use denote.Triple.Spec.{tripleOf}
 use denote.Triple.Table.{entered, cited}
 use Rattle.table.specs.declared.Platform.{Platform}
 use Rattle.table.specs.Limits.{mostTasks}
-use Rattle.gorsetumble.specs.Lent.{tableOf}
+use Rattle.table.specs.Tasks.{tableOf}
 use Rattle.gorsetumble.specs.Code.Rows.{noRows}
 use Rattle.lent.proofs.Data.{row, val, vals, Fits, told, typed}
 use Rattle.gorsetumble.proofs.Fill.{at-first}
@@ -37,10 +37,10 @@ use Rattle.gorsetumble.proofs.Lends.{all-vals}
 use Rattle.gorsetumble.proofs.OfRows.{Entry, Post, meets-by}
 use Rattle.gorsetumble.proofs.Tables.{platform, task, table, Rows}
 use Rattle.lent.proofs.Walk.{calls-plain}
-use Rattle.gorsetumble.proofs.kept as kept
-use Rattle.gorsetumble.proofs.kept.Symbol as kept-def
-use Rattle.gorsetumble.proofs.kept.Symbol.{name as #kept}
-use Rattle.gorsetumble.proofs.kept.Met as kept-thm
+use Rattle.table.proofs.Table.entries as kept
+use Rattle.table.proofs.Table.entries.Symbol as kept-def
+use Rattle.table.proofs.Table.entries.Symbol.{name as #kept}
+use Rattle.table.proofs.Table.entries.Met as kept-thm
 use Rattle.gorsetumble.proofs.no_rows as no-rows
 use Rattle.gorsetumble.proofs.no_rows.Symbol as no-rows-def
 use Rattle.gorsetumble.proofs.no_rows.Symbol.{name as #no-rows}
@@ -94,6 +94,6 @@ table-of-spec 𝓤 H 𝓜 𝓖 𝓡 =
     (tables 𝓤 H 𝓜 𝓡 code.env .C) (tables 𝓤 H 𝓜 𝓡 code.env .Λ) #table-of code.function (code.unfolded 𝓤 H 𝓜 𝓡)
     (meets-by table tableOf 𝓤 H (𝓖 .A) (givenOf 𝓤 H 𝓜 𝓖) (tablesOf 𝓤 H 𝓜 (tables 𝓤 H 𝓜 𝓡 code.env)) code.function
     (walk 𝓤 H (𝓖 .A) (𝓜 .mem) (𝓡 .run) (givenOf 𝓤 H 𝓜 𝓖) (tablesOf 𝓤 H 𝓜 (tables 𝓤 H 𝓜 𝓡 code.env))
-    (cited 𝓤 H (Kept 𝓤 H (𝓖 .A) (𝓜 .mem) (𝓡 .run)) 𝓜 𝓡 code.env #kept kept-def.routine code.calls-gorsetumble·kept (kept-thm.met 𝓤 H 𝓜 𝓖 𝓡))
+    (cited 𝓤 H (Kept 𝓤 H (𝓖 .A) (𝓜 .mem) (𝓡 .run)) 𝓜 𝓡 code.env #kept kept-def.routine code.calls-table·Table·entries (kept-thm.met 𝓤 H 𝓜 𝓖 𝓡))
     (cited 𝓤 H (NoRows 𝓤 H (𝓖 .A) (𝓜 .mem) (𝓡 .run)) 𝓜 𝓡 code.env #no-rows no-rows-def.routine code.calls-gorsetumble·no-rows (no-rows-thm.met 𝓤 H 𝓜 𝓖 𝓡))
     (cited 𝓤 H (Whole 𝓤 H (𝓖 .A) (𝓜 .mem) (𝓡 .run)) 𝓜 𝓡 code.env #whole whole-def.routine code.calls-gorsetumble·whole (whole-thm.met 𝓤 H 𝓜 𝓖 𝓡))))

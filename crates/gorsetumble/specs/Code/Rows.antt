@@ -1,4 +1,4 @@
--- The parts from which `table_of` makes its table. No statement of a public function rests on these definitions.
+-- The table of a lent row on its way, as the code fills it. No statement of a public function rests on these definitions.
 use Prim.Native.Nat.{ℕ}
 use mathlib.Core.List.{List}
 use Rattle.maths.specs.Tasks.{tabulate}
@@ -8,6 +8,7 @@ use Rattle.table.specs.declared.Table.{Table}
 use Rattle.table.specs.Limits.{mostTasks}
 use Rattle.table.specs.Tasks.{noTask}
 
+-- no row at all, and a table of its parts
 abbrev pub noRows : List Task
 noRows = tabulate mostTasks (λ k. noTask)
 

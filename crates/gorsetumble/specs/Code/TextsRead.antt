@@ -2,15 +2,14 @@
 -- No statement of a public function rests on these definitions.
 use Prim.Native.Nat.{ℕ}
 use mathlib.Core.Bool.{cond}
-use mathlib.Core.List.{List, []}
+use mathlib.Core.List.{List}
 use lib.Dec.{eqb}
-use lib.ListN.{getD}
 use Rattle.forms.specs.Forms.{platformForm, tasksForm}
 use Rattle.forms.specs.Reads.{Answer, found, refused}
 use Rattle.forms.specs.Reader.{read}
 use Rattle.table.specs.Refused.{noRefusal}
 use Rattle.table.specs.Tasks.{emptyTable}
-use Rattle.readers.specs.Inputs.{noPlatform, platformOf, tableOf}
+use Rattle.readers.specs.Inputs.{noPlatform, tableFrom}
 use Rattle.machine.specs.declared.Machine.{Machine}
 use Rattle.machine.specs.Fresh.{setUp}
 use Rattle.gorsetumble.specs.declared.texting.TextsRead.{TextsRead}
@@ -23,7 +22,7 @@ unread text offset = record { refused = badIn text offset; table = emptyTable no
 abbrev pub readOf : Answer (List (List ℕ)) → Answer (List (List ℕ)) → TextsRead
 readOf (refused offset) tasks = unread inPlatform offset
 readOf (found platform) (refused offset) = unread inTasks offset
-readOf (found platform) (found rows) = record { refused = record { refused = noRefusal; text = 0 }; table = tableOf (platformOf (getD platform 0 [])) rows }
+readOf (found platform) (found rows) = record { refused = record { refused = noRefusal; text = 0 }; table = tableFrom platform rows }
 
 unfoldable pub textsRead : List ℕ → List ℕ → TextsRead
 textsRead platform tasks = readOf (read platformForm platform) (read tasksForm tasks)

@@ -7,10 +7,10 @@ use native.Mathlib.Omega.{arith}
 use denote.Ref.{now}
 use lib.ListN.{length, take}
 use Rattle.forms.specs.Forms.{line}
-use Rattle.writers.specs.Written.{Put}
+use Rattle.writers.specs.Code.Put.{Put}
 use Rattle.writers.proofs.Added.{put-added}
 use Rattle.writers.proofs.Sequences.{Putting, putting-start, putting-more, putting-end, putting-room, put-then, put-room, put-length, first-fits}
-use Rattle.runs.specs.Runs.{ticksIn}
+use Rattle.runs.specs.Code.Runs.{ticksIn}
 use Rattle.runs.proofs.Runs.{header, toCome, run-split, Going, going-start, going-end, Gone, going-on}
 use Rattle.runs.proofs.put_run.Statement.{statement}
 use Rattle.runs.proofs.put_run.Tie as tie

@@ -9,7 +9,7 @@ use lib.ListN.{length}
 use Rattle.writers.specs.Written.{roomFor}
 use Rattle.writers.proofs.Rooms.{room-none, room-more, room-halt}
 use Rattle.runs.specs.Ticks.{runText}
-use Rattle.runs.specs.Runs.{ticksIn, runStart}
+use Rattle.runs.specs.Code.Runs.{ticksIn, runStart}
 use Rattle.runs.proofs.Runs.{toCome, run-split, Going, going-start, going-end, Gone, going-on}
 use Rattle.runs.proofs.run_room.Statement.{statement}
 use Rattle.runs.proofs.run_room.Tie as tie

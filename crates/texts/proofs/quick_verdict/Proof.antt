@@ -8,7 +8,8 @@ use Rattle.forms.specs.Reader.{read}
 use Rattle.table.specs.Limits.{mostTasks}
 use Rattle.admission.specs.declared.QuickAnswer.{QuickAnswer}
 use Rattle.texts.specs.Verdict.{numbered, numberOf, quickNumber, verdict}
-use Rattle.texts.proofs.Answers.{numbered-refused, numbered-admitted, numbered-failing, first-most}
+use Rattle.admission.proofs.Answers.{first-le}
+use Rattle.texts.proofs.Answers.{numbered-refused, numbered-admitted, numbered-failing}
 use Rattle.texts.proofs.Given.{platform-bad, table-bad, table-good, rows-32}
 use Rattle.texts.proofs.quick_verdict.Statement.{statement}
 use Rattle.texts.proofs.quick_verdict.Tie as tie
@@ -27,7 +28,7 @@ judges c =
 small : (c : tie.After-quick-answer) → c .quick-answer .result .first ≤ mostTasks
 small c =
     let t = c .before .before .before .before in
-    rw (c .quick-answer .ensures) (first-most _ (rows-32 _ (read tasksForm _) (t .read-tasks .result) (t .read-tasks .ensures)))
+    rw (c .quick-answer .ensures) (first-le _ (rows-32 _ (read tasksForm _) (t .read-tasks .result) (t .read-tasks .ensures)))
 
 read-platform-requires : tie.Need-read-platform-requires
 read-platform-requires c κs = search needs

@@ -6,6 +6,7 @@ use borrow.Author.Tests.{not-true, not-false}
 use denote.Ref.{now}
 use lib.ListN.{length, take}
 use Rattle.forms.specs.Forms.{line}
+use Rattle.writers.specs.Written.{widest}
 use Rattle.writers.proofs.Added.{added-none, added-put, room-at, short-at, take-fewer}
 use Rattle.writers.proofs.add_line.Statement.{statement}
 use Rattle.writers.proofs.add_line.Tie as tie
@@ -13,7 +14,7 @@ use Rattle.writers.proofs.add_line.Tie as tie
 same : (c : tie.After-fewer) → let args = c .before .before .before .args in take (args .columns) (args .numbers) ≡ take (c .fewer .result) (args .numbers)
 same c =
     let args = c .before .before .before .args in
-    let size : length (args .numbers) ≡ 5 = search needs in
+    let size : length (args .numbers) ≡ widest = search needs in
     take-fewer (args .numbers) (args .columns) (c .fewer .result) (c .fewer .ensures ∙ rw size)
 
 fits : (c : tie.Else2) →

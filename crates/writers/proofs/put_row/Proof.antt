@@ -5,6 +5,7 @@ use mathlib.Core.Path.{_≡_, refl, _∙_}
 use native.Mathlib.Omega.{arith}
 use lib.ListN.{length, take}
 use Rattle.forms.specs.Forms.{line}
+use Rattle.writers.specs.Written.{widest}
 use Rattle.writers.proofs.Rows.{tail, piece, line-more, line-none}
 use Rattle.writers.proofs.Sequences.{Putting, putting-start, putting-more, putting-end, putting-room, put-length}
 use Rattle.writers.proofs.put_row.Statement.{statement}
@@ -37,7 +38,7 @@ put-cell-requires : tie.Need-put-cell-requires Inv-loop μ-loop
 put-cell-requires c κs =
     let k = c .before .before in
     let args = k .before .before .args in
-    let size : length (args .t3) ≡ 5 = search needs in
+    let size : length (args .t3) ≡ widest = search needs in
     putting-room (k .loop .inv .2) (piece (args .t3) (args .columns) (k .loop .j)) _ (line-more (args .t3) (args .columns) (k .loop .j) (omega arith) (omega arith)) (k .before .before .pre .1)
 
 add-j : tie.Need-add-j Inv-loop μ-loop
@@ -50,7 +51,7 @@ loop-again : tie.Need-loop-again Inv-loop μ-loop
 loop-again c =
     let k = c .before .before .before .before .before in
     let args = k .before .before .args in
-    let size : length (args .t3) ≡ 5 = search needs in
+    let size : length (args .t3) ≡ widest = search needs in
     let put = c .before .before .put-cell .ensures in (
       search needs,
       put-length put ∙ k .loop .inv .1,

@@ -7,7 +7,7 @@ use native.Mathlib.Omega.{arith}
 use denote.Ref.{now}
 use lib.ListN.{length, take, length-append}
 use Rattle.maths.proofs.Lists.{len-mapped}
-use Rattle.forms.specs.Forms.{tasksForm, crlf, line}
+use Rattle.forms.specs.Forms.{columns, tasksForm, crlf, line}
 use Rattle.table.specs.Limits.{mostTasks}
 use Rattle.writers.specs.Outputs.{tasksText}
 use Rattle.writers.proofs.Sequences.{Putting, putting-start, putting-more, putting-end, putting-room, put-then, put-room, put-length}
@@ -37,7 +37,7 @@ more : (c : tie.After-task-numbers Inv-loop μ-loop) →
     let k = c .before .before .before in
     let h = k .before .before .before .before .before .before in
     let t = h .before .before .args .t2 in
-    rowsFrom t (h .fewer .result) (k .loop .i) ≡ line (take 4 (c .task-numbers .result)) ++ rowsFrom t (h .fewer .result) (k .loop .i + 1)
+    rowsFrom t (h .fewer .result) (k .loop .i) ≡ line (take (length (columns tasksForm)) (c .task-numbers .result)) ++ rowsFrom t (h .fewer .result) (k .loop .i + 1)
 more c =
     let k = c .before .before .before in
     let h = k .before .before .before .before .before .before in
@@ -75,7 +75,7 @@ put-row-requires c κs =
     let t = h .before .before .args .t2 in
     let n = h .fewer .result in
     let room = put-room (rowsFrom t n 0) (k .before .before .before .put-word .ensures) (fits h) in
-    (search needs, putting-room (k .loop .inv .2) (line (take 4 (c .before .task-numbers .result))) (rowsFrom t n (k .loop .i + 1)) (more (c .before)) room)
+    (search needs, putting-room (k .loop .inv .2) (line (take (length (columns tasksForm)) (c .before .task-numbers .result))) (rowsFrom t n (k .loop .i + 1)) (more (c .before)) room)
 
 add-i : tie.Need-add-i Inv-loop μ-loop
 add-i c = search needs

@@ -7,7 +7,7 @@ use native.Mathlib.Omega.{arith}
 use denote.Ref.{now}
 use lib.ListN.{length, take, length-append}
 use Rattle.forms.specs.Forms.{ticksForm, crlf, line}
-use Rattle.writers.specs.Outputs.{ticksText}
+use Rattle.writers.specs.Outputs.{reportsText}
 use Rattle.writers.proofs.Sequences.{Putting, putting-start, putting-more, putting-end, putting-room, put-then, put-room, put-length}
 use Rattle.writers.proofs.Ticks.{ticksFrom, ticks-split, ticks-more, ticks-end}
 use Rattle.writers.proofs.put_ticks.Statement.{statement}

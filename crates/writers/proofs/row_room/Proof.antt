@@ -6,7 +6,7 @@ use native.Mathlib.Omega.{arith}
 use borrow.Author.Tests.{not-true, not-false}
 use lib.ListN.{length, take}
 use Rattle.forms.specs.Forms.{line}
-use Rattle.writers.specs.Written.{roomFor}
+use Rattle.writers.specs.Written.{widest, roomFor}
 use Rattle.writers.proofs.Rows.{tail, line-room, line-short, line-none}
 use Rattle.writers.proofs.Rooms.{room-none}
 use Rattle.writers.proofs.row_room.Statement.{statement}
@@ -42,7 +42,7 @@ returns : tie.Need-returns Inv-loop μ-loop
 returns c =
     let k = c .before .before .before .before in
     let args = k .before .args in
-    let size : length (args .t1) ≡ 5 = search needs in
+    let size : length (args .t1) ≡ widest = search needs in
     let x = c .before .before .cell-room in
     sym (k .loop .inv .1 ∙ line-short (args .t1) (args .columns) (k .loop .j) (omega arith) (omega arith) (k .loop .left) _ (x .ensures) (not-true _ (c .if1 .taken)))
 
@@ -56,7 +56,7 @@ loop-again : tie.Need-loop-again Inv-loop μ-loop
 loop-again c =
     let k = c .before .before .before .before in
     let args = k .before .args in
-    let size : length (args .t1) ≡ 5 = search needs in
+    let size : length (args .t1) ≡ widest = search needs in
     let x = c .before .before .cell-room in (
       search needs,
       k .loop .inv .1 ∙ line-room (args .t1) (args .columns) (k .loop .j) (omega arith) (omega arith) (k .loop .left) _ (x .ensures) (not-false _ (c .if1 .left)),

@@ -7,7 +7,7 @@ use native.Mathlib.Omega.{arith}
 use borrow.Author.Tests.{not-true, not-false}
 use lib.ListN.{length, take}
 use Rattle.forms.specs.Forms.{line}
-use Rattle.writers.specs.Outputs.{ticksText}
+use Rattle.writers.specs.Outputs.{reportsText}
 use Rattle.writers.specs.Written.{roomFor}
 use Rattle.writers.proofs.Rooms.{room-none, room-more, room-halt}
 use Rattle.writers.proofs.Ticks.{ticksFrom, ticks-split, ticks-more, ticks-end}
@@ -15,7 +15,7 @@ use Rattle.writers.proofs.ticks_room.Statement.{statement}
 use Rattle.writers.proofs.ticks_room.Tie as tie
 
 abbrev Inv-loop : tie.InvT-loop
-Inv-loop released finished room n left₀ i₀ left i = (i ≤ n) × (roomFor (ticksText released finished) room ≡ roomFor (ticksFrom released finished i) left)
+Inv-loop released finished room n left₀ i₀ left i = (i ≤ n) × (roomFor (reportsText released finished) room ≡ roomFor (ticksFrom released finished i) left)
 
 abbrev μ-loop : tie.MeasureT-loop
 μ-loop released finished room n left₀ i₀ left i = n - i

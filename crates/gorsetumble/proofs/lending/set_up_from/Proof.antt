@@ -40,11 +40,11 @@ use denote.Triple.Walked.{says, Stays, stay-none, walkOf, goes-none, ends-at, wa
 use Rattle.table.specs.declared.Platform.{Platform}
 use Rattle.table.specs.declared.Task.{Task}
 use Rattle.table.specs.declared.Refusal.{Refusal}
+use Rattle.table.specs.Tasks.{tableOf}
 use Rattle.machine.specs.declared.Machine.{Machine}
 use Rattle.machine.specs.declared.SetUp.{SetUp}
 use Rattle.machine.specs.Fresh.{setUp}
 use Rattle.machine.proofs.SetUp as S′
-use Rattle.gorsetumble.specs.Lent.{tableOf}
 use Rattle.lent.proofs.Data.{Data, row, val, vals, Fits, told, made, typed, two, both-fit}
 use Rattle.gorsetumble.proofs.First.{first-length, first-same}
 use Rattle.lent.proofs.Lends.{ref-to, lends-local, local-back}

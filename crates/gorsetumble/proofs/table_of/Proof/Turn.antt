@@ -38,9 +38,8 @@ use denote.Triple.Spec.{tripleOf}
 use Rattle.table.specs.declared.Platform.{Platform}
 use Rattle.table.specs.declared.Task.{Task}
 use Rattle.table.specs.Limits.{mostTasks}
-use Rattle.table.specs.Tasks.{noTask}
+use Rattle.table.specs.Tasks.{noTask, tableOf}
 use Rattle.table.proofs.Task.Laws as task-laws
-use Rattle.gorsetumble.specs.Lent.{tableOf}
 use Rattle.gorsetumble.specs.Code.Rows.{withRows}
 use Rattle.lent.proofs.Data.{row, val, vals, Fits, told, made, typed}
 use Rattle.gorsetumble.proofs.Fill.{after, one-more, at-last}

@@ -1,5 +1,5 @@
 use borrow.Author.Needs.{needs}
-use Rattle.runs.specs.Runs.{runOn}
+use Rattle.runs.specs.Code.Runs.{runOn}
 use Rattle.runs.proofs.Run.on.Statement.{statement}
 use Rattle.runs.proofs.Run.on.Tie as tie
 

@@ -31,7 +31,7 @@ use Rattle.table.specs.declared.Platform.{Platform}
 use Rattle.table.specs.Limits.{mostTasks}
 use Rattle.table.specs.Tasks.{tableOf}
 use Rattle.gorsetumble.specs.Code.Rows.{noRows}
-use Rattle.lent.proofs.Data.{row, val, vals, Fits, told, made, typed}
+use Rattle.lent.proofs.Data.{row, val, vals, Fits, told, typed}
 use Rattle.gorsetumble.proofs.Fill.{at-first}
 use Rattle.gorsetumble.proofs.Lends.{all-vals}
 use Rattle.gorsetumble.proofs.OfRows.{Entry, Post, meets-by}

@@ -10,12 +10,12 @@ use Rattle.maths.proofs.Determined.{determined}
 use Rattle.maths.proofs.Tasks.{lowest-le}
 use Rattle.table.specs.declared.Table.{Table}
 use Rattle.table.specs.Limits.{mostTasks}
-use Rattle.table.specs.Refused.{refusal}
+use Rattle.table.specs.Refused.{refusal, unrefused}
 use Rattle.table.proofs.Good.{good-of}
 use Rattle.admission.specs.declared.FullAnswer.{FullAnswer}
 use Rattle.admission.specs.declared.QuickAnswer.{QuickAnswer}
 use Rattle.admission.specs.Test.{passes, admitted, firstFailing}
-use Rattle.admission.specs.Answers.{unrefused, fullAnswer, quickAnswer}
+use Rattle.admission.specs.Answers.{fullAnswer, quickAnswer}
 
 -- the full answer without its margins
 abbrev pub quickOf : FullAnswer → QuickAnswer
@@ -42,5 +42,5 @@ first-le t len = by (unrefused t) refl
   where
     by : (b : Bool) → unrefused t ≡ b
         → cond {A = QuickAnswer} b (record { refused = refusal t; admitted = admitted t; first = firstFailing t }) (record { refused = refusal t; admitted = false; first = 0 }) .first ≤ mostTasks
-    by true e = le-trans (lowest-le (λ k. not (passes t k)) (t .n)) (good-of t len (eqb-true (refusal t .number) 0 e) .few)
+    by true e = le-trans (lowest-le (λ k. not (passes t k)) (t .n)) (good-of t len (eqb-true (refusal t .number) 0 e) .sizes .few)
     by false e = omega arith

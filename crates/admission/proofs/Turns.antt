@@ -47,5 +47,5 @@ module _ {t : Table} (g : Good t) {k : ℕ} (l : k < t .n) {x : Measures} where
   loading-more {load} {i} {term} h c e =
       let m = c .measures in
       let adds : term ≡ weight t (suc k) (suc i) * interference t (suc k) (suc i) = e ∙ rw (m .b, m .s) in
-      let most : term ≤ mostTerm = rw e (term-le (row-good g i h) (g .cores) (b-le m) (s-le m)) in
+      let most : term ≤ mostTerm = rw e (term-le (row-good g i h) (g .sizes .cores) (b-le m) (s-le m)) in
       record { measures = m; is = omega (arith, load-more t (suc k) i, c .is); small = omega (arith, c .small) }

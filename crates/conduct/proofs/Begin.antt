@@ -12,7 +12,6 @@ use Rattle.maths.proofs.Tests.{both}
 use Rattle.table.specs.Tasks.{P, τ, A}
 use Rattle.sets.specs.Sets.{below}
 use Rattle.sets.specs.Families.{Apart}
-use Rattle.sets.specs.Choice.{choice}
 use Rattle.sets.proofs.Choices.{choice-lt, choice-free, choice-size}
 use Rattle.sets.proofs.Holders.{apart-take}
 use Rattle.machine.specs.declared.Job.{Job}
@@ -66,7 +65,7 @@ module _ (m : Machine) (i : ℕ) (w : waits m (suc i) ≡ true) where
     pub start-good : GoodState (start m i)
     start-good =
         record {
-          accepted = g .accepted;
+          unrefused = g .unrefused;
           table = g .table;
           noTasks = g .noTasks;
           noJobs = λ j h k. start-other m i j (omega arith) ∙ g .noJobs j h k;

@@ -39,7 +39,7 @@ module _ {m : Machine} (g : GoodState m) where
       ∙ sum-ext _ _ (m .table .n) (λ i l. held-size (g .each i l))
 
   pub idle-partitions : idlePartitions m .0 ≡ P (m .table) - heldCount m
-  idle-partitions = size-idle mostPartitions (P (m .table)) (busy m) (g .table .partitions) (busy-lt g) ∙ rw busy-size
+  idle-partitions = size-idle mostPartitions (P (m .table)) (busy m) (g .table .sizes .partitions) (busy-lt g) ∙ rw busy-size
 
 pub running-jobs : (m : Machine) → running m ≡ Σ (m .table .n) (λ k. runs (life (job m k)))
 unfolding running

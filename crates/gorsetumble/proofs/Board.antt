@@ -16,12 +16,12 @@ use Rattle.table.specs.declared.Refusal.{Refusal}
 use Rattle.table.specs.declared.Table.{Table}
 use Rattle.table.specs.Limits.{mostTasks}
 use Rattle.table.specs.Tasks.{noTask}
-use Rattle.table.specs.Refused.{refusal}
+use Rattle.table.specs.Refused.{refusal, unrefused}
 use Rattle.table.proofs.Refusals.{refusal-carries}
 use Rattle.readers.specs.Inputs.{taskOf}
 use Rattle.admission.specs.declared.QuickAnswer.{QuickAnswer}
 use Rattle.admission.specs.Test as test
-use Rattle.admission.specs.Answers.{unrefused, quickAnswer}
+use Rattle.admission.specs.Answers.{quickAnswer}
 use Rattle.admission.proofs.Laws.{admitted-is}
 use Rattle.admission.proofs.Answers.{first-le}
 use Rattle.machine.specs.declared.Machine.{Machine}

@@ -1,10 +1,8 @@
 -- Two results that a public function's statement allows are equal.
-use Prim.Native.Nat.{ℕ, min}
 use mathlib.Core.Path.{_≡_}
 use mathlib.Core.Bool.{Bool}
 use Rattle.maths.proofs.Determined.{determined}
 use Rattle.table.specs.declared.Table.{Table}
-use Rattle.table.specs.Limits.{mostTasks}
 use Rattle.machine.specs.declared.Stage.{Stage}
 use Rattle.machine.specs.declared.Job.{Job}
 use Rattle.machine.specs.declared.Machine.{Machine}
@@ -23,9 +21,6 @@ is-running-determined x = determined (isRunning x)
 
 pub none-determined : (r s : Job) → r ≡ noJob → s ≡ noJob → r ≡ s
 none-determined = determined noJob
-
-pub entries-determined : (n : ℕ) (r s : ℕ) → r ≡ min n mostTasks → s ≡ min n mostTasks → r ≡ s
-entries-determined n = determined (min n mostTasks)
 
 pub fresh-determined : (t : Table) (r s : Machine) → r ≡ fresh t → s ≡ fresh t → r ≡ s
 fresh-determined t = determined (fresh t)

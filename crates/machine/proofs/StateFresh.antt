@@ -106,15 +106,15 @@ pub fresh-state : (t : Table) → refusal t .number ≡ 0 → length (t .rows) �
 unfolding fresh
 fresh-state t e len =
     let g = good-of t len e in
-    let accepted : refusal (fresh t .table) .number ≡ 0 = ap (λ (r : Refusal). r .number) (fresh-refusal t len (g .few)) ∙ e in
+    let unrefused : refusal (fresh t .table) .number ≡ 0 = ap (λ (r : Refusal). r .number) (fresh-refusal t len (g .sizes .few)) ∙ e in
     record {
-      accepted = accepted;
-      table = good-of (fresh t .table) (fresh-rows-length t) accepted;
+      unrefused = unrefused;
+      table = good-of (fresh t .table) (fresh-rows-length t) unrefused;
       noTasks = λ i l m. fresh-no-task t i m l;
       noJobs = λ i l m. fresh-no-job t i m l;
-      each = λ i l. let m : i < mostTasks = omega (arith, g .few) in rw (fresh-task t i m l, fresh-job t i m l) (fresh-job-good g i l);
-      apart = λ i j l m. rw (fresh-job t i (omega (arith, g .few)) (omega arith)) (and-zero-l (job (fresh t) (suc j) .held));
-      cores = omega (arith, fresh-running t (g .few));
+      each = λ i l. let m : i < mostTasks = omega (arith, g .sizes .few) in rw (fresh-task t i m l, fresh-job t i m l) (fresh-job-good g i l);
+      apart = λ i j l m. rw (fresh-job t i (omega (arith, g .sizes .few)) (omega arith)) (and-zero-l (job (fresh t) (suc j) .held));
+      cores = omega (arith, fresh-running t (g .sizes .few));
     }
 
 pub fresh-good : (t : Table) → refusal t .number ≡ 0 → length (t .rows) ≡ mostTasks → goodState (fresh t) ≡ true

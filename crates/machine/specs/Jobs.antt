@@ -3,9 +3,8 @@
 use Prim.Native.Nat.{ℕ, suc, _-_}
 use mathlib.Core.Bool.{Bool, cond}
 use lib.Dec.{eqb}
-use lib.ListN.{set}
 use Rattle.maths.specs.Sums.{Σ}
-use Rattle.maths.specs.Tasks.{entry, lowest, tabulate}
+use Rattle.maths.specs.Tasks.{entry}
 use Rattle.table.specs.declared.Cores.{Cores}
 use Rattle.table.specs.declared.Partitions.{Partitions}
 use Rattle.table.specs.declared.Task.{Task}

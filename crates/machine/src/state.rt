@@ -1,7 +1,5 @@
 // Jobs, a fresh machine and set-up.
 ghost use mathlib.Core.Path.{_≡_};
-ghost use Prim.Native.Nat.{min};
-ghost use Rattle.table.specs.Limits.{mostTasks};
 ghost use Rattle.machine.specs.Jobs.{isIdle, isWaiting, isRunning, noJob};
 ghost use Rattle.machine.specs.Fresh.{trimmed, fresh, setUp};
 use crate::Job;
@@ -54,7 +52,7 @@ impl Job {
 fn trimmed_rows(t: Table) -> [Task; Table::MOST]
     ensures { λ r. ⌜ r ≡ trimmed t .rows ⌝ }
 {
-    let n = Machine::entries(t.n);
+    let n = Table::entries(t.n);
     let mut rows = [Task::none(); Table::MOST];
     let mut i: usize = 0;
     while i < n {
@@ -68,7 +66,7 @@ fn trimmed_rows(t: Table) -> [Task; Table::MOST]
 fn fresh_jobs(t: Table) -> [Job; Table::MOST]
     ensures { λ r. ⌜ r ≡ fresh t .jobs ⌝ }
 {
-    let n = Machine::entries(t.n);
+    let n = Table::entries(t.n);
     let mut jobs = [Job::none(); Table::MOST];
     let mut i: usize = 0;
     while i < n {
@@ -85,13 +83,6 @@ fn fresh_jobs(t: Table) -> [Job; Table::MOST]
 }
 
 impl Machine {
-    // How many entries tasks 1 to n have: a refused table may say more than there are.
-    pub fn entries(n: usize) -> usize
-        ensures { λ r. ⌜ r ≡ min n mostTasks ⌝ }
-    {
-        if n < Table::MOST { n } else { Table::MOST }
-    }
-
     pub fn fresh(t: Table) -> Machine
         ensures { λ r. ⌜ r ≡ fresh t ⌝ }
     {

@@ -9,7 +9,7 @@ use Rattle.forms.specs.Forms.{platformForm, tasksForm, ticksForm}
 use Rattle.forms.specs.Reads.{Answer, found, refused}
 use Rattle.table.specs.declared.Refusal.{Refusal}
 use Rattle.table.specs.declared.Table.{Table}
-use Rattle.table.specs.Refused.{refusal}
+use Rattle.table.specs.Refused.{refusal, unrefused}
 use Rattle.machine.specs.declared.Machine.{Machine}
 use Rattle.machine.specs.declared.Ticked.{Ticked}
 use Rattle.machine.specs.Fresh.{fresh}
@@ -43,7 +43,7 @@ runText m rows = listing "tick,refused,finished,late,started" (runRows 0 m rows)
 -- the ticks of the text on a fresh machine of the table
 abbrev pub ran : Answer (List (List ℕ)) → Table → List ℕ
 ran (refused offset) t = refusedText (badText offset)
-ran (found rows) t = cond (eqb (refusal t .number) 0) (runText (fresh t) rows) (refusedText (refusal t))
+ran (found rows) t = cond (unrefused t) (runText (fresh t) rows) (refusedText (refusal t))
 
 unfoldable pub ticksText : Bool → List ℕ → Bool → List ℕ → Bool → List ℕ → List ℕ
 ticksText platformThere platform tasksThere tasks ticksThere ticks =

@@ -6,7 +6,7 @@ use mathlib.Core.Logic.{_⊎_, inl, inr}
 use native.Mathlib.Nat.{lt-of-lt-of-le, pow-suc, mod-lt, div-one, div-self, zero-div, div-eq-of-lt}
 use native.Mathlib.Omega.{arith}
 use native.Mathlib.Decide.{ℕ-discrete, decLt}
-use borrow.Author.Tests.{eq-eqb, ne-eqb, eqb-true, eqb-false}
+use borrow.Author.Tests.{eq-eqb, ne-eqb, eqb-true}
 use lib.Bits.{bitAnd, bitOr, and-step, or-step, and-shr, or-shr, and-le-l}
 use lib.Dec.{lit<}
 use lib.Pow.{pow-add, pow-pos, pow-mono, pow-lt, shl-shr, shr-shr, high, mod-pow-add, field, mod-mod-pow, ones-lt, ones-split}

@@ -1,15 +1,15 @@
 -- How the union and the holders' being apart move when holders change.
-use Prim.Native.Nat.{ℕ, _-_, _<_, _≤_, max}
-use mathlib.Core.Path.{_≡_, sym, _∙_}
+use Prim.Native.Nat.{ℕ, _<_, _≤_, max}
+use mathlib.Core.Path.{_≡_, _∙_}
 use mathlib.Core.Logic.{_⊎_, inl, inr}
 use native.Mathlib.Omega.{arith}
-use native.Mathlib.Decide.{ℕ-discrete, decLt}
-use lib.Bits.{bitAnd, bitOr, and-comm, and-zero-l}
-use Rattle.sets.specs.Sets.{bit, without, Within}
+use native.Mathlib.Decide.{ℕ-discrete}
+use lib.Bits.{bitAnd, bitOr, and-comm}
+use Rattle.sets.specs.Sets.{bit, Within}
 use Rattle.sets.specs.Families.{unionOf, Apart}
 use Rattle.sets.proofs.Bits.{bit-lt, bit-cases, bit-zero, bit-or}
-use Rattle.sets.proofs.Same.{same, disjoint-of, disjoint-bit, without-or}
-use Rattle.sets.proofs.Unions.{union-within, union-some, union-disjoint, disjoint-union}
+use Rattle.sets.proofs.Same.{same, disjoint-of, disjoint-bit}
+use Rattle.sets.proofs.Unions.{union-within, union-some, disjoint-union}
 
 -- holders that only give up keep apart
 pub apart-within : (f g : ℕ → ℕ) (n : ℕ) → ((i : ℕ) → i < n → Within (g i) (f i)) → Apart n f → Apart n g

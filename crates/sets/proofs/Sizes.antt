@@ -1,6 +1,6 @@
 -- Laws of how many members a set has, each from what holds at every place.
 use Prim.Native.Nat.{ℕ, zero, suc, _+_, _-_, _/_, _^_, _<_, _≤_, zero-le}
-use mathlib.Core.Path.{_≡_, refl, sym, _∙_}
+use mathlib.Core.Path.{_≡_, refl, _∙_}
 use mathlib.Core.Logic.{_⊎_, inl, inr}
 use native.Mathlib.Nat.{not-suc-le-zero, le-of-suc-le-suc, eq-or-lt-of-le, le-refl, div-one, div-eq-of-lt}
 use native.Mathlib.Omega.{arith}
@@ -11,7 +11,7 @@ use lib.Count.{ones, onesIn, ones-step}
 use lib.Pow.{shr-shr, ones-lt}
 use Rattle.sets.specs.Sets.{bit, size, below, without, Within}
 use Rattle.sets.proofs.Bits.{bit-lt, bit-cases, bit-above, bit-zero, bit-or, bit-and, bit-without, bit-pow-same, bit-pow-other, bit-below}
-use Rattle.sets.proofs.Same.{ext, within-below}
+use Rattle.sets.proofs.Same.{within-below}
 
 pub size-none : (x : ℕ) → size 0 x ≡ 0
 unfolding size

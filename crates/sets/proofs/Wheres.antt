@@ -3,21 +3,17 @@ use Prim.Native.Nat.{ℕ, zero, suc, _+_, _-_, _*_, _%_, _^_, _<_, _≤_}
 use mathlib.Core.Path.{_≡_, refl, sym, _∙_, ap}
 use mathlib.Core.Bool.{Bool, true, false, cond, _||_}
 use mathlib.Core.Logic.{_⊎_, inl, inr}
-use native.Mathlib.Nat.{not-suc-le-zero, le-of-suc-le-suc, eq-or-lt-of-le, pow-suc, one-mul, le-refl}
+use native.Mathlib.Nat.{not-suc-le-zero, le-of-suc-le-suc, eq-or-lt-of-le, pow-suc, one-mul}
 use native.Mathlib.Omega.{arith}
 use native.Mathlib.Numerals.{add-one}
 use borrow.Author.Tests.{lt-ltb, le-ltb}
 use lib.Bits.{bitOr, or-shifted-r}
 use lib.Dec.{lit<}
 use lib.Pow.{shl-exact}
-use Rattle.maths.specs.Sums.{sum}
-use Rattle.maths.proofs.Sums.{sum-zero, sum-suc}
 use Rattle.table.specs.Limits.{mostTasks}
-use Rattle.sets.specs.Sets.{bit, has, size, setWhere}
+use Rattle.sets.specs.Sets.{bit, has, setWhere}
 use Rattle.sets.specs.TaskSets.{hasTask, taskBit, tasksWhere}
-use Rattle.sets.proofs.Bits.{bit-lt, bit-cases, bit-one, bit-none, has-bit, bit-above, bit-or, bit-pow-same, bit-pow-other}
-use Rattle.sets.proofs.Same.{ext}
-use Rattle.sets.proofs.Sizes.{size-none, size-more, size-wide}
+use Rattle.sets.proofs.Bits.{bit-lt, bit-cases, bit-one, bit-none, bit-above, bit-or, bit-pow-same, bit-pow-other}
 
 -- `1 << p`
 pub shifted : (w p : ℕ) → p < w → 1 * 2 ^ p % 2 ^ w ≡ 2 ^ p

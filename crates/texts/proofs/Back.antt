@@ -21,7 +21,7 @@ use Rattle.table.specs.Refused.{noRefusal}
 use Rattle.table.specs.Tasks.{noTask, tableOf}
 use Rattle.readers.specs.Inputs.{taskOf, platformRead, tableRead}
 use Rattle.writers.specs.Outputs.{platformRow, taskRow, tickRows, tasksText}
-use Rattle.texts.specs.Back.{NarrowPlatform, NarrowRows, trimmed, NonePast, WritesBack}
+use Rattle.texts.specs.Back.{NarrowPlatform, NarrowRows, tableWritten, NonePast, WritesBack}
 
 platform-rows : (p : Platform) → NarrowPlatform p → GoodRows platformForm (platformRow p ∷ [])
 platform-rows p w = record { each = also w none; alone = λ o. refl }
@@ -37,7 +37,7 @@ tasks-back : (xs : List Task) → map taskOf (map taskRow xs) ≡ xs
 tasks-back [] = refl
 tasks-back (x ∷ xs) = ap {B = List Task} (λ r. x ∷ r) (tasks-back xs)
 
-table-back : (t : Table) → NarrowRows t → tableRead (t .platform) (read tasksForm (tasksText t)) ≡ record { refused = noRefusal; table = trimmed t }
+table-back : (t : Table) → NarrowRows t → tableRead (t .platform) (read tasksForm (tasksText t)) ≡ record { refused = noRefusal; table = tableWritten t }
 table-back t w =
     ap (tableRead (t .platform)) (complete tasksForm _ (many-rows tasksForm refl _ w))
     ∙ ap (λ (xs : List Task). record { refused = noRefusal; table = tableOf (t .platform) xs }) (tasks-back (take (t .n) (t .rows)))
@@ -47,21 +47,21 @@ module _ (t : Table) (len : length (t .rows) ≡ mostTasks) where
     size : length (take (t .n) (t .rows)) ≡ t .n
     size = length-take-le (t .n) (t .rows) (omega arith)
 
-    held : (i : ℕ) → i < t .n → getD (trimmed t .rows) i noTask ≡ getD (t .rows) i noTask
+    held : (i : ℕ) → i < t .n → getD (tableWritten t .rows) i noTask ≡ getD (t .rows) i noTask
     held i l = getD-padded noTask mostTasks (take (t .n) (t .rows)) i (omega arith) ∙ getD-take (t .n) (t .rows) i noTask l
 
-    first-rows : take (t .n) (trimmed t .rows) ≡ take (t .n) (t .rows)
+    first-rows : take (t .n) (tableWritten t .rows) ≡ take (t .n) (t .rows)
     first-rows =
         let all = length-padded noTask mostTasks (take (t .n) (t .rows)) in
-        let both : length (take (t .n) (trimmed t .rows)) ≡ t .n = length-take-le (t .n) (trimmed t .rows) (omega arith) in
+        let both : length (take (t .n) (tableWritten t .rows)) ≡ t .n = length-take-le (t .n) (tableWritten t .rows) (omega arith) in
         ext-getD noTask _ _ (both ∙ sym size)
         (λ i l. let h : i < t .n = omega arith in
-        getD-take (t .n) (trimmed t .rows) i noTask h ∙ held i h ∙ sym (getD-take (t .n) (t .rows) i noTask h))
+        getD-take (t .n) (tableWritten t .rows) i noTask h ∙ held i h ∙ sym (getD-take (t .n) (t .rows) i noTask h))
 
-    rows-same : NonePast t → trimmed t .rows ≡ t .rows
+    rows-same : NonePast t → tableWritten t .rows ≡ t .rows
     rows-same past = ext-getD noTask _ _ (length-padded noTask mostTasks _ ∙ sym len) at
       where
-        at : (i : ℕ) → i < length (trimmed t .rows) → getD (trimmed t .rows) i noTask ≡ getD (t .rows) i noTask
+        at : (i : ℕ) → i < length (tableWritten t .rows) → getD (tableWritten t .rows) i noTask ≡ getD (t .rows) i noTask
         at i l =
             let in32 : i < mostTasks = omega (arith, length-padded noTask mostTasks (take (t .n) (t .rows))) in
             elim (decLt i (t .n)) [
@@ -71,10 +71,10 @@ module _ (t : Table) (len : length (t .rows) ≡ mostTasks) where
                   ∙ sym (past i (omega arith) in32)
             ]
 
-    all-same : NonePast t → trimmed t ≡ t
+    all-same : NonePast t → tableWritten t ≡ t
     all-same past = rw (size, rows-same past) refl
 
-  all-rows : mostTasks < t .n → trimmed t ≡ tableOf (t .platform) (t .rows)
+  all-rows : mostTasks < t .n → tableWritten t ≡ tableOf (t .platform) (t .rows)
   all-rows l = rw (take-all (t .n) (t .rows) (omega arith))
 
 pub writes-back : WritesBack

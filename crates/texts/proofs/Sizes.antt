@@ -26,14 +26,14 @@ use Rattle.forms.proofs.Theorem.{reads}
 use Rattle.table.specs.declared.Table.{Table}
 use Rattle.table.specs.declared.Refusal.{Refusal}
 use Rattle.table.specs.Limits.{mostTasks}
-use Rattle.table.specs.Refused.{refusal}
+use Rattle.table.specs.Refused.{refusal, unrefused}
 use Rattle.table.specs.Tasks.{noTask}
 use Rattle.table.specs.Good.{Good}
 use Rattle.table.proofs.Good.{good-of}
 use Rattle.table.proofs.Refusals.{refusal-carries}
 use Rattle.admission.specs.declared.FullAnswer.{FullAnswer}
 use Rattle.admission.specs.Test.{interference, weight, load, limit, less, margin, admitted, firstFailing}
-use Rattle.admission.specs.Answers.{unrefused, margins, fullAnswer}
+use Rattle.admission.specs.Answers.{margins, fullAnswer}
 use Rattle.admission.proofs.Bounds.{mostTerm, row-good, term-le, B-le, S-le, limit-small}
 use Rattle.readers.specs.Inputs.{badText}
 use Rattle.writers.specs.Signed.{marginOf, sign, marginRow}
@@ -100,12 +100,12 @@ module _ (t : Table) (g : Good t) where
   load-small : (i : ℕ) → i < t .n → load t (suc i) < 2 ^ 62
   unfolding load interference
   load-small i l =
-      let few = g .few in
+      let few = g .sizes .few in
       omega (
         arith,
         sum-const mostTerm (t .n),
         sum-mono (λ j. weight t (suc i) (suc j) * interference t (suc i) (suc j)) (λ j. mostTerm) (t .n)
-            (λ j h. term-le (row-good g j h) (g .cores) (B-le g i l) (S-le g i l)),
+            (λ j h. term-le (row-good g j h) (g .sizes .cores) (B-le g i l) (S-le g i l)),
       )
 
   margin-fits : (i : ℕ) → i < t .n → mag (margin t (suc i)) < 2 ^ 63
@@ -115,7 +115,7 @@ module _ (t : Table) (g : Good t) where
   held-fits : (i : ℕ) → i < length (take (t .n) (margins t)) → mag (getD (take (t .n) (margins t)) i (pos 0)) < 2 ^ 63
   held-fits i l =
       let f : ℕ → ℤ = λ k. cond (leb k (t .n)) (margin t k) (pos 0) in
-      let few = g .few in
+      let few = g .sizes .few in
       let size = length-take (t .n) (margins t) in
       let all = length-tabulate f mostTasks in
       let less : i < t .n = omega arith in
@@ -124,7 +124,7 @@ module _ (t : Table) (g : Good t) where
   margins-most : length (marginsText (t .n) (margins t)) ≤ admitMost
   unfolding marginsText
   margins-most =
-      let few = g .few in
+      let few = g .sizes .few in
       let size = length-take (t .n) (margins t) in
       let all = length-tabulate (λ k. cond (leb k (t .n)) (margin t k) (pos 0)) mostTasks in
       simp length-append (omega (arith, lines-most 1 (take (t .n) (margins t)) (omega arith) held-fits))

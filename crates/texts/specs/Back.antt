@@ -25,8 +25,8 @@ abbrev pub NarrowTicks : List ℕ → List ℕ → Type 0
 NarrowTicks released finished = EachRow (columns ticksForm) (tickRows released finished)
 
 -- The table of the rows that are written: nothing past the n rows, and of more than 32 only the 32 that are there.
-abbrev pub trimmed : Table → Table
-trimmed t = tableOf (t .platform) (take (t .n) (t .rows))
+abbrev pub tableWritten : Table → Table
+tableWritten t = tableOf (t .platform) (take (t .n) (t .rows))
 
 -- entries past n are zero
 abbrev pub NonePast : Table → Type 0
@@ -40,12 +40,12 @@ pub record WritesBack : Type 0 where
   -- the readers give back what was written
   pub platformBack : (p : Platform) → NarrowPlatform p → platformRead (read platformForm (platformText p)) ≡ record { refused = noRefusal; platform = p }
   pub tasksBack : (t : Table) → NarrowRows t
-      → tableRead (t .platform) (read tasksForm (tasksText t)) ≡ record { refused = noRefusal; table = trimmed t }
+      → tableRead (t .platform) (read tasksForm (tasksText t)) ≡ record { refused = noRefusal; table = tableWritten t }
   pub ticksBack : (released finished : List ℕ) → NarrowTicks released finished
       → read ticksForm (reportsText released finished) ≡ found (tickRows released finished)
   -- of at most 32 tasks that is the table's n and first n rows, and the table itself where entries past n are zero
   pub kept : (t : Table) → length (t .rows) ≡ mostTasks → t .n ≤ mostTasks
-      → (trimmed t .n ≡ t .n) × (take (t .n) (trimmed t .rows) ≡ take (t .n) (t .rows))
-  pub same : (t : Table) → length (t .rows) ≡ mostTasks → t .n ≤ mostTasks → NonePast t → trimmed t ≡ t
+      → (tableWritten t .n ≡ t .n) × (take (t .n) (tableWritten t .rows) ≡ take (t .n) (t .rows))
+  pub same : (t : Table) → length (t .rows) ≡ mostTasks → t .n ≤ mostTasks → NonePast t → tableWritten t ≡ t
   -- of more it is the 32 that are there
-  pub cut : (t : Table) → length (t .rows) ≡ mostTasks → mostTasks < t .n → trimmed t ≡ tableOf (t .platform) (t .rows)
+  pub cut : (t : Table) → length (t .rows) ≡ mostTasks → mostTasks < t .n → tableWritten t ≡ tableOf (t .platform) (t .rows)

@@ -68,7 +68,7 @@ module _ (m : Machine) (released finished : ℕ) where
         by true w =
             let a = accepts m released finished rows w in
             let l = looked (a .test) in
-            let all : entriesOf ≡ m .table .n = omega (arith, a .good .table .few) in
+            let all : entriesOf ≡ m .table .n = omega (arith, a .good .table .sizes .few) in
             let machine : record { table = m .table; jobs = jobsTo entriesOf } ≡ moved m released finished =
             ap (λ (k : ℕ). machineOf (m .table) (jobsTo k)) all ∙ sym (moved-is m released finished a seen l) in
             let late : turnsOf entriesOf .late ≡ lateSet m (finish finished (passed m)) =

@@ -4,7 +4,7 @@ use mathlib.Core.Path.{_≡_, refl, sym, _∙_, ap}
 use mathlib.Core.Bool.{Bool, true, false, cond, _&&_, _||_}
 use native.Mathlib.Numerals.{add-one}
 use native.Mathlib.Omega.{arith}
-use borrow.Author.Tests.{le-leb, lt-leb, eq-eqb, eqb-true}
+use borrow.Author.Tests.{le-leb, lt-leb, eq-eqb}
 use lib.Bits.{bitOr}
 use lib.Dec.{leb, eqb}
 use lib.ListN.{length}
@@ -14,8 +14,7 @@ use Rattle.maths.proofs.Tests.{both, same-truth}
 use Rattle.table.specs.Limits.{mostTasks}
 use Rattle.table.specs.Tasks.{τ, M}
 use Rattle.table.specs.Refused.{refusal}
-use Rattle.table.proofs.Good.{good-sizes, sizes-accepted, row-accepted}
-use Rattle.table.proofs.Good as good
+use Rattle.table.proofs.Good.{good-sizes, sizes-unrefused, row-unrefused, not-refused-of}
 use Rattle.sets.specs.Families.{allApart}
 use Rattle.sets.specs.TaskSets.{hasTask}
 use Rattle.sets.proofs.Unions.{apart-all}
@@ -76,7 +75,7 @@ module _ (m : Machine) (released finished past : ℕ) (len : length (m .table .r
       let g : lookTo m released finished (m .table .n) .good ≡ true = rw (← is) (b .0) in
       let l = looked m released finished (m .table .n) g in
       rw (
-        eq-eqb (refusal (m .table) .number) 0 (good.accepted (m .table) len (l .sizes) (l .rows)),
+        eq-eqb (refusal (m .table) .number) 0 (not-refused-of (m .table) len (l .sizes) (l .rows)),
         sym zeros ∙ b .1,
         every-of (goodTask m) (m .table .n) (l .jobs .good),
         apart-all (λ i. job m (suc i) .held) (m .table .n) (l .jobs .apart),
@@ -88,10 +87,10 @@ module _ (m : Machine) (released finished past : ℕ) (len : length (m .table .r
   from-good : goodState m ≡ true → foundGood found past (m .table .platform .cores) ≡ true
   from-good e =
       let g = state-good m len e in
-      let is = all-of (g .table .few) in
+      let is = all-of (g .table .sizes .few) in
       let t = m .table in
       let w : lookTo m released finished (m .table .n) .good ≡ true =
-      looks-good m released finished (sizes-accepted t len (g .accepted)) (t .n) (row-accepted t len (g .accepted)) (λ i l. job-test _ _ _ (g .each i l)) (g .apart) (t .n) (omega arith) in
+      looks-good m released finished (sizes-unrefused t len (g .unrefused)) (t .n) (row-unrefused t len (g .unrefused)) (λ i l. job-test _ _ _ (g .each i l)) (g .apart) (t .n) (omega arith) in
       let l = looked m released finished (t .n) w in
       let cores : lookTo m released finished (t .n) .running .0 ≤ M t = rw (l .jobs .runs, running-all m) (g .cores) in
       rw (is, w, zeros, zeros-of e) (le-leb _ _ cores)
@@ -103,7 +102,7 @@ module _ (m : Machine) (released finished past : ℕ) (len : length (m .table .r
   pub found-looked : goodState m ≡ true → Looked m released finished (m .table .n) found
   found-looked e =
       let good = both (found .good) _ (both (found .good && eqb past 0) _ (from-good e) .0) in
-      let is = all-of (state-good m len e .table .few) in
+      let is = all-of (state-good m len e .table .sizes .few) in
       let g : lookTo m released finished (m .table .n) .good ≡ true = rw (← is) (good .0) in
       rw is (looked m released finished (m .table .n) g)
 
@@ -135,4 +134,4 @@ pub accepts : (m : Machine) (released finished : ℕ) → length (m .table .rows
 accepts m released finished len e =
     let a = accepted-is m released finished e in
     let g = state-good m len (a .before .good) in
-    record { test = a .before .good; good = g; each = λ i l. taken m released finished (g .table .few) a (suc i) (omega arith) l }
+    record { test = a .before .good; good = g; each = λ i l. taken m released finished (g .table .sizes .few) a (suc i) (omega arith) l }

@@ -3,7 +3,7 @@ use Prim.Native.Nat.{ℕ, _+_}
 use mathlib.Core.Path.{_≡_, refl, sym, _∙_}
 use mathlib.Core.Bool.{Bool, true, false, cond, _&&_, and-false}
 use native.Mathlib.Omega.{arith}
-use borrow.Author.Tests.{eqb-true, not-true}
+use borrow.Author.Tests.{not-true}
 use lib.Bits.{bitOr, or-zero-r}
 use lib.Dec.{eqb}
 use Rattle.maths.proofs.Tests.{both}

@@ -85,7 +85,7 @@ module _ (m : Machine) (released finished : ℕ) where
         marks ∙ (rw at-end at (e .zeros))
 
     pub ending-few : foundGood look past (m .table .platform .cores) ≡ true → m .table .n ≤ mostTasks
-    ending-few w = state-good m rows (sym (found-good m released finished past rows zeros) ∙ (rw (e .found) at w)) .table .few
+    ending-few w = state-good m rows (sym (found-good m released finished past rows zeros) ∙ (rw (e .found) at w)) .table .sizes .few
 
     pub moving-none : length (m .jobs) ≡ mostTasks → (refused : Refusal) (moved : ℕ) (walk : Walk) → refused ≡ foundRefusal look past (m .table .platform .cores) (m .table .n) (bitOr released finished)
         → moved ≡ cond (eqb (refused .number) 0) n 0 → walk ≡ walkStart (m .table .platform) look → Moving refused moved (m .jobs) walk 0

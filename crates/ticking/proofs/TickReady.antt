@@ -15,7 +15,7 @@ use Rattle.sets.specs.TaskSets.{hasTask}
 use Rattle.sets.proofs.Unions.{union-same}
 use Rattle.machine.specs.declared.Job.{Job}
 use Rattle.machine.specs.declared.Machine.{Machine}
-use Rattle.machine.specs.Jobs.{isIdle, isWaiting, isRunning, job, waits, runs, running, busy}
+use Rattle.machine.specs.Jobs.{isWaiting, isRunning, job, waits, runs, running, busy}
 use Rattle.machine.specs.Code.Readied.{readiedJob}
 use Rattle.machine.specs.Tick.{readied}
 use Rattle.machine.proofs.Jobs.{readied-table, readied-job, readied-pass, for-past, for-length}
@@ -62,7 +62,7 @@ module _ (m : Machine) (released finished : ℕ) where
   module _ (a : Accepts m released finished) where
     pub ready-job : (i : ℕ) → i < m .table .n
         → job (ready m released finished) (suc i) ≡ readiedJob (τ (m .table) (suc i)) (hasTask released (suc i)) (hasTask finished (suc i)) (job m (suc i))
-    ready-job i l = readied-job m (suc i) (omega arith) l (omega (arith, a .good .table .few)) released finished
+    ready-job i l = readied-job m (suc i) (omega arith) l (omega (arith, a .good .table .sizes .few)) released finished
 
     pub ready-running : Σ (m .table .n) (stays m released finished) ≡ running (ready m released finished)
     unfolding running

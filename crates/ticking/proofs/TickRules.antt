@@ -143,7 +143,7 @@ neither false b e = (refl, e)
 
 module _ (m : Machine) (released finished : ℕ) (g : GoodState m) where
   few : m .table .n ≤ mostTasks
-  few = g .table .few
+  few = g .table .sizes .few
 
   abbrev nine : ℕ
   nine = lowest mostTasks (above (bitOr released finished) (m .table .n))

@@ -14,7 +14,7 @@ use Rattle.sets.proofs.Wheres.{where-same}
 use Rattle.ticking.specs.declared.Look.{Look}
 use Rattle.machine.specs.declared.Machine.{Machine}
 use Rattle.ticking.specs.declared.Walk.{Walk}
-use Rattle.machine.specs.Jobs.{job, running, idleSet, idleCores, idlePartitions}
+use Rattle.machine.specs.Jobs.{job, running, idleSet, idleCores}
 use Rattle.machine.specs.Steps.{passed, finish, lateSet, startAll}
 use Rattle.ticking.specs.Code.Passes.{walkStart}
 use Rattle.machine.specs.Tick.{readied, moved, startedSet}
@@ -38,7 +38,7 @@ module _ (m : Machine) (released finished : ℕ) (a : Accepts m released finishe
 
   idle-so : first .idle ≡ idleSet (ready m released finished)
   idle-so =
-      let p : min (P (m .table)) 64 ≡ P (m .table) = omega (arith, a .good .table .partitions) in
+      let p : min (P (m .table)) 64 ≡ P (m .table) = omega (arith, a .good .table .sizes .partitions) in
       ap (λ (z : ℕ). without (below z) (l .busy)) p
       ∙ ap (λ (z : ℕ). without (below (P (m .table))) z) (seen .holds ∙ ready-busy m released finished a)
 
@@ -51,7 +51,7 @@ module _ (m : Machine) (released finished : ℕ) (a : Accepts m released finishe
   is-pass =
       record {
         entries = ready-length m released finished;
-        few = a .good .table .few;
+        few = a .good .table .sizes .few;
         goes = ap (λ (x : Walk). x .goes) starts-so;
         cores = ap (λ (x : Walk). x .cores) starts-so ∙ cores-so;
         idle = ap (λ (x : Walk). x .idle) starts-so ∙ idle-so;
@@ -90,8 +90,8 @@ module _ (m : Machine) (released finished : ℕ) (a : Accepts m released finishe
   late-so =
       ap (lateSet m) unfinished-is
       ∙ (where-same _ (λ i. isLateTask m released finished first (suc i)) (m .table .n)
-      (λ i h. rw (finished-job m (suc i) (omega arith) h (omega (arith, a .good .table .few)) finished))
-      ∙ sym (walk-late m released finished first refl (m .table .n) (a .good .table .few)))
+      (λ i h. rw (finished-job m (suc i) (omega arith) h (omega (arith, a .good .table .sizes .few)) finished))
+      ∙ sym (walk-late m released finished first refl (m .table .n) (a .good .table .sizes .few)))
     where
       unfinished : Machine
       unfinished = record { table = m .table; jobs = finish finished (passed m) .jobs }

@@ -68,7 +68,7 @@ pub fn tick(m: Machine, released: u32, finished: u32) -> Ticked
 {
     let t = m.table;
     let mut jobs = m.jobs;
-    let n = Machine::entries(t.n);
+    let n = Table::entries(t.n);
     let mut look = Look::start(t);
     let mut k: usize = 0;
     while k < n {

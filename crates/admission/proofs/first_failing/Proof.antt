@@ -40,7 +40,7 @@ measured-requires c κs =
     let o = c .before .before in
     let g = o .before .before .before .pre in
     let most : o .tasks .most .0 ≤ P (o .before .before .before .args .t1) = rw (o .tasks .inv .3) (Amax-le g (o .tasks .k) (o .tasks .inv .0)) in
-    (most, g .partitions, g .row (o .tasks .k) (c .before .tasks-test .taken))
+    (most, g .sizes .partitions, g .row (o .tasks .k) (c .before .tasks-test .taken))
 
 known : (c : tie.After-measured Inv-loop μ-loop Inv-tasks μ-tasks) → Measured (c .before .before .before .before .before .before .args .t1) (c .before .before .before .tasks .k) (c .measured .result)
 known c =
@@ -52,7 +52,7 @@ limited-requires : tie.Need-limited-requires Inv-loop μ-loop Inv-tasks μ-tasks
 limited-requires c κs =
     let g = c .before .before .before .before .before .before .before .pre in
     let k = c .before .before .before .tasks-test .taken in
-    (g .cores, b-le g k (known (c .before)), s-le g k (known (c .before)))
+    (g .sizes .cores, b-le g k (known (c .before)), s-le g k (known (c .before)))
 
 loop-holds : tie.Need-loop-holds Inv-loop μ-loop Inv-tasks μ-tasks
 loop-holds c =
@@ -71,7 +71,7 @@ term-requires c κs =
     let t = l .before .before .before .before .before in
     let g = t .before .before .before .before .pre in
     let m = l .loop .inv .2 .measures in
-    (g .cores, b-le g (t .tasks-test .taken) m, s-le g (t .tasks-test .taken) m, row-good g (l .loop .i) (c .before .loop-test .taken))
+    (g .sizes .cores, b-le g (t .tasks-test .taken) m, s-le g (t .tasks-test .taken) m, row-good g (l .loop .i) (c .before .loop-test .taken))
 
 -- the load after a turn
 more : (c : tie.After-term Inv-loop μ-loop Inv-tasks μ-tasks)
@@ -113,7 +113,7 @@ tasks-again c =
     let t = o .before .before .before .args .t1 in
     let k = o .tasks .k in
     let at-end : l .loop .i ≡ t .n = omega arith in
-    let low = l .loop .inv .3 (omega (arith, o .before .before .before .pre .some)) in
+    let low = l .loop .inv .3 (omega (arith, o .before .before .before .pre .sizes .some)) in
     let is : l .loop .load ≡ load t (suc k) = l .loop .inv .2 .is ∙ rw at-end (load-all t (suc k)) in
     let top = limit-is (o .before .before .before .pre) (x .before .before .tasks-test .taken) (known x) in
     let below : load t (suc k) < limit t (suc k) = omega (arith, is, l .before .limited .ensures, top, low) in (

@@ -44,7 +44,7 @@ measured-requires c κs =
     let o = c .before .before in
     let g = o .before .before .before .pre in
     let most : o .loop .most .0 ≤ P (o .before .before .before .args .t1) = rw (o .loop .inv .3) (Amax-le g (o .loop .k) (o .loop .inv .0)) in
-    (most, g .partitions, g .row (o .loop .k) (c .before .loop-test .taken))
+    (most, g .sizes .partitions, g .row (o .loop .k) (c .before .loop-test .taken))
 
 known : (c : tie.After-measured Inv-loop2 μ-loop2 Inv-loop μ-loop) → Measured (c .before .before .before .before .before .before .args .t1) (c .before .before .before .loop .k) (c .measured .result)
 known c =
@@ -69,7 +69,7 @@ term-requires c κs =
     let t = l .before .before .before .before in
     let g = t .before .before .before .before .pre in
     let m = l .loop2 .inv .1 .measures in
-    (g .cores, b-le g (t .loop-test .taken) m, s-le g (t .loop-test .taken) m, row-good g (l .loop2 .i) (c .before .loop2-test .taken))
+    (g .sizes .cores, b-le g (t .loop-test .taken) m, s-le g (t .loop-test .taken) m, row-good g (l .loop2 .i) (c .before .loop2-test .taken))
 
 -- the load after a turn
 more : (c : tie.After-term Inv-loop2 μ-loop2 Inv-loop μ-loop)
@@ -97,7 +97,7 @@ limited-requires c κs =
     let x = c .before .before .before in
     let t = x .before .before in
     let g = t .before .before .before .before .pre in
-    (g .cores, b-le g (t .loop-test .taken) (known x), s-le g (t .loop-test .taken) (known x))
+    (g .sizes .cores, b-le g (t .loop-test .taken) (known x), s-le g (t .loop-test .taken) (known x))
 
 limit-of : (c : tie.After-limited Inv-loop2 μ-loop2 Inv-loop μ-loop) → c .limited .result ≡ limit (c .before .before .before .before .before .before .before .before .before .before .args .t1) (suc (c .before .before .before .before .before .before .before .loop .k))
 limit-of c =
@@ -117,7 +117,7 @@ difference-requires c κs =
     let l = c .before .before in
     let t = l .before .before .before .before in
     let g = t .before .before .before .before .pre in
-    (rw (limit-of c) (limit-small g (t .before .loop .k) (t .loop-test .taken)), omega (arith, l .loop2 .inv .1 .small, g .few))
+    (rw (limit-of c) (limit-small g (t .before .loop .k) (t .loop-test .taken)), omega (arith, l .loop2 .inv .1 .small, g .sizes .few))
 
 mul-margins : tie.Need-mul-margins Inv-loop2 μ-loop2 Inv-loop μ-loop
 mul-margins c = search needs
@@ -143,7 +143,7 @@ loop-again c =
     let is : toZ w64 (ofZ w64 (d .difference .result)) ≡ margin t (suc k) =
     toZ-ofZ {w = w64} (record { sfits = d .difference .ok }) ∙ (d .difference .ensures ∙ rw (limit-of (d .before), load-of (d .before))) in (
       search needs,
-      rw (is, o .loop .inv .1) (margins-more t k (omega (arith, o .before .before .before .pre .few))),
+      rw (is, o .loop .inv .1) (margins-more t k (omega (arith, o .before .before .before .pre .sizes .few))),
       c .first-with .ensures ∙ rw (is, o .loop .inv .2) (sym (lowest-more (λ j. not (passes t j)) k)),
       known (d .before .before .before .before .before) .most ∙ rw (add-one k),
     )

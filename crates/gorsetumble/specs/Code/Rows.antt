@@ -1,6 +1,6 @@
 -- The table of a lent row on its way, as the code fills it. No statement of a public function rests on these definitions.
 use Prim.Native.Nat.{ℕ}
-use lib.ListN.{set}
+use mathlib.Core.List.{List}
 use Rattle.maths.specs.Tasks.{tabulate}
 use Rattle.table.specs.declared.Platform.{Platform}
 use Rattle.table.specs.declared.Task.{Task}
@@ -8,9 +8,9 @@ use Rattle.table.specs.declared.Table.{Table}
 use Rattle.table.specs.Limits.{mostTasks}
 use Rattle.table.specs.Tasks.{noTask}
 
--- a table that says n rows and has none, and a table with a row put in
-abbrev pub noRows : Platform → ℕ → Table
-noRows platform n = record { platform = platform; n = n; rows = tabulate mostTasks (λ k. noTask) }
+-- no row at all, and a table of its parts
+abbrev pub noRows : List Task
+noRows = tabulate mostTasks (λ k. noTask)
 
-abbrev pub withRow : Table → ℕ → Task → Table
-withRow t i row = record { platform = t .platform; n = t .n; rows = set (t .rows) i row }
+abbrev pub withRows : Platform → ℕ → List Task → Table
+withRows platform n rows = record { platform = platform; n = n; rows = rows }

@@ -7,7 +7,6 @@ use lib.ListN.{take}
 use Rattle.maths.proofs.Determined.{determined, determined-both}
 use Rattle.table.specs.declared.Platform.{Platform}
 use Rattle.table.specs.declared.Task.{Task}
-use Rattle.table.specs.declared.Table.{Table}
 use Rattle.table.specs.declared.Refusal.{Refusal}
 use Rattle.table.specs.Tasks.{tableOf}
 use Rattle.admission.specs.declared.FullAnswer.{FullAnswer}
@@ -20,9 +19,6 @@ use Rattle.gorsetumble.specs.declared.texting.TextRefusal.{TextRefusal}
 use Rattle.gorsetumble.specs.FromTexts.{setUpTexts}
 
 module _ (p : Platform) (rows : List Task) where
-  pub table-of-determined : (r s : Table) → r ≡ tableOf p rows → s ≡ tableOf p rows → r ≡ s
-  table-of-determined = determined (tableOf p rows)
-
   pub full-determined : (r s : FullAnswer) → r ≡ fullAnswer (tableOf p rows) → s ≡ fullAnswer (tableOf p rows) → r ≡ s
   full-determined = determined (fullAnswer (tableOf p rows))
 

@@ -6,10 +6,9 @@ use native.Mathlib.Omega.{arith}
 use Rattle.forms.specs.Forms.{platformForm, tasksForm}
 use Rattle.forms.specs.Reads.{Answer, found, refused}
 use Rattle.forms.specs.Reader.{read}
-use Rattle.table.specs.Refused.{noRefusal}
 use Rattle.readers.specs.declared.PlatformRead.{PlatformRead}
 use Rattle.readers.specs.declared.TableRead.{TableRead}
-use Rattle.readers.specs.Inputs.{noPlatform, platformRead, tableRead}
+use Rattle.readers.specs.Inputs.{platformRead, tableRead}
 use Rattle.machine.specs.declared.Machine.{Machine}
 use Rattle.gorsetumble.specs.declared.texting.TextsRead.{TextsRead}
 use Rattle.gorsetumble.specs.FromTexts.{inPlatform, inTasks, setUpRead, setUpTexts}

@@ -13,5 +13,6 @@ pub mod Lends
 pub mod OfRows
 pub mod Renewed
 pub mod Rows
+pub mod Stores
 pub mod Tables
 pub mod RenewedTexts

@@ -1,20 +1,22 @@
 // Set-up for a caller in Rattle, which can make no reference to a record: a local is lent for one call.
 ghost use mathlib.Core.Path.{_≡_};
-ghost use Prim.Native.Nat.{min};
+ghost use Prim.Native.Nat.{suc, min};
 ghost use lib.ListN.{take};
+ghost use Rattle.table.specs.Limits.{mostTasks};
 ghost use Rattle.machine.specs.Fresh.{setUp};
 ghost use Rattle.table.specs.Tasks.{tableOf};
 use crate::gorsetumble_set_up;
 use machine::Machine;
 use machine::SetUp;
 use table::Platform;
+use table::Table;
 use table::Task;
 
 // One row more than a table keeps, so that too many can be lent.
-pub const MOST: usize = 33;
+pub const MOST: usize = Table::MOST + 1;
 
 fn lendable(n: usize) -> usize
-    ensures { λ r. ⌜ r ≡ min n 33 ⌝ }
+    ensures { λ r. ⌜ r ≡ min n (suc mostTasks) ⌝ }
 {
     if n < MOST { n } else { MOST }
 }

@@ -35,7 +35,7 @@ fn whole(platform: Platform, n: usize, rows: [Task; Table::MOST]) -> Table
 
 // The table of a lent row of task records: their whole count, and the first of them as far as a table goes. The rows are stored in place, one by one: a
 // table that is handed on by value at each would be copied at each.
-pub fn table_of(platform: Platform, rows: &[Task]) -> Table
+fn table_of(platform: Platform, rows: &[Task]) -> Table
     ensures { λ r. ⌜ r ≡ tableOf platform (now (rows .entry)) ⌝ }
 {
     let n = rows.len();

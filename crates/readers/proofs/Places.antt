@@ -6,10 +6,11 @@ use mathlib.Core.List.{List, [], _∷_}
 use mathlib.Core.Option.{Option, none, some, Option·getD}
 use native.Mathlib.Numerals.{add-one}
 use native.Mathlib.Omega.{arith}
-use borrow.Author.Tests.{eq-eqb, ne-eqb, lt-ltb, le-leb, lt-leb}
+use borrow.Author.Tests.{eq-eqb, ne-eqb, lt-ltb, le-leb, lt-leb, leb-true}
 use lib.Dec.{leb}
 use lib.ListN.{length, drop, getD, drop-of-length-le}
 use lib.Seq.{drop-cons}
+use Rattle.maths.proofs.Tests.{same-truth}
 use Rattle.forms.specs.Reader.{keep, isDigit, grow}
 use Rattle.readers.specs.declared.Grown.{Grown}
 use Rattle.readers.specs.declared.Number.{Number}
@@ -88,6 +89,12 @@ module _ (most : ℕ) where
 
   pub grown-fits : (v c : ℕ) → 48 ≤ c → c ≤ 57 → 10 * v + (c - 48) ≤ most → grownTo most v c ≡ record { may = true; value = 10 * v + (c - 48) }
   grown-fits v c l m h = rw (le-leb 48 c l, le-leb c 57 m, le-leb (10 * v + (c - 48)) most h)
+
+  pub room-left : (v d : ℕ) → 10 * v ≤ most → leb d (most - 10 * v) ≡ leb (10 * v + d) most
+  room-left v d h =
+      same-truth _ _
+      (λ e. let l : d ≤ most - 10 * v = leb-true _ _ e in le-leb (10 * v + d) most (omega arith))
+      (λ e. let l : 10 * v + d ≤ most = leb-true _ _ e in le-leb d (most - 10 * v) (omega arith))
 
   module _ (text : List ℕ) where
     pub number-short : (at : ℕ) → length text ≤ at → numberAt most text at ≡ record { value = 0; next = at }

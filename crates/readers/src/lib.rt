@@ -1,8 +1,9 @@
 // Readers of document 01's texts. Each reads as far as a good text could go, and says where that is.
-ghost use Prim.Native.Nat.{_≤_};
+ghost use Prim.Native.Nat.{_+_, _*_, _<_, _≤_};
 ghost use mathlib.Core.Path.{_≡_};
 ghost use mathlib.Core.Bool.{false};
 ghost use mathlib.Core.List.{[]};
+ghost use lib.Dec.{leb};
 ghost use lib.ListN.{length};
 ghost use Rattle.forms.specs.Forms.{ending, platformForm, tasksForm, ticksForm};
 ghost use Rattle.forms.specs.Reads.{refused};
@@ -115,19 +116,28 @@ fn with_digit(most: u64, v: u64, c: u8) -> Grown
     if 57 < c {
         return Grown::not();
     }
-    // Asked so that nothing passes 64 bits; the quotient is the same for every digit of a number.
-    if most / 10 < v {
-        return Grown::not();
-    }
-    let tens = 10 * v;
     let d = (c - 48) as u64;
-    if most - tens < d {
+    if !has_room(most, v, d) {
         return Grown::not();
     }
     Grown {
         may: true,
-        value: tens + d,
+        value: 10 * v + d,
     }
+}
+
+// Whether 10 v + d is at most the largest, asked so that nothing passes 64 bits. Most digits are told by the quotient, the same for each.
+fn has_room(most: u64, v: u64, d: u64) -> bool
+    requires { ⌜ d < 10 ⌝ }
+    ensures { λ r. ⌜ r ≡ leb (10 * v + d) most ⌝ }
+{
+    if v < most / 10 {
+        return true;
+    }
+    if most / 10 < v {
+        return false;
+    }
+    d <= most - 10 * v
 }
 
 impl Grown {

@@ -1,6 +1,8 @@
 use borrow.Author.Needs.{needs}
+use Prim.Native.Nat.{_+_, _-_, _*_, _<_, _≤_}
 use mathlib.Core.Path.{_≡_, sym, _∙_}
 use native.Mathlib.Omega.{arith}
+use borrow.Author.Tests.{not-true, not-false, leb-true, leb-false}
 use Rattle.readers.proofs.Places.{digit-low, digit-high, grown-none, grown-large, grown-fits}
 use Rattle.readers.proofs.with_digit.Statement.{statement}
 use Rattle.readers.proofs.with_digit.Tie as tie
@@ -21,38 +23,36 @@ returns-2 c =
     let args = c .before .before .before .args in
     c .not2 .ensures ∙ sym (grown-none (args .most) (args .v) (args .c) (digit-high (args .c) (omega arith)))
 
+cast-d : tie.Need-cast-d
+cast-d c = search needs
+
+has-room-requires : tie.Need-has-room-requires
+has-room-requires c κs = omega arith
+
 not-requires-3 : tie.Need-not-requires-3
 not-requires-3 c κs = search needs
 
 returns-3 : tie.Need-returns-3
 returns-3 c =
+    let r = c .before .before in
+    let args = r .before .before .before .args in
+    c .not3 .ensures ∙ sym (grown-large (args .most) (args .v) (args .c) (leb-false _ _ (sym (r .has-room .ensures) ∙ not-true _ (c .before .if3 .taken))))
+
+room : (c : tie.Else3) →
     let args = c .before .before .before .before .args in
-    c .not3 .ensures ∙ sym (grown-large (args .most) (args .v) (args .c) (omega arith))
+    10 * args .v + (args .c - 48) ≤ args .most
+room c = leb-true _ _ (sym (c .before .has-room .ensures) ∙ not-false _ (c .if3 .left))
 
-mul-tens : tie.Need-mul-tens
-mul-tens c = search needs
+mul-t8 : tie.Need-mul-t8
+mul-t8 c = let h = room c in search needs
 
-cast-d : tie.Need-cast-d
-cast-d c = search needs
-
-sub-if4 : tie.Need-sub-if4
-sub-if4 c = search needs
-
-not-requires-4 : tie.Need-not-requires-4
-not-requires-4 c κs = search needs
+add-t9 : tie.Need-add-t9
+add-t9 c = let h = room c in search needs
 
 returns-4 : tie.Need-returns-4
 returns-4 c =
-    let args = c .before .before .before .before .before .args in
-    c .not4 .ensures ∙ sym (grown-large (args .most) (args .v) (args .c) (omega arith))
-
-add-t7 : tie.Need-add-t7
-add-t7 c = search needs
-
-returns-5 : tie.Need-returns-5
-returns-5 c =
     let args = c .before .before .before .before .args in
-    sym (grown-fits (args .most) (args .v) (args .c) (omega arith) (omega arith) (omega arith))
+    sym (grown-fits (args .most) (args .v) (args .c) (omega arith) (omega arith) (room c))
 
 pub with-digit-spec : {M : Type 1} → statement M
 with-digit-spec =
@@ -62,12 +62,10 @@ with-digit-spec =
     returns
     not-requires-2
     returns-2
+    cast-d
+    has-room-requires
     not-requires-3
     returns-3
-    mul-tens
-    cast-d
-    sub-if4
-    not-requires-4
-    returns-4
-    add-t7
-    returns-5)
+    mul-t8
+    add-t9
+    returns-4)

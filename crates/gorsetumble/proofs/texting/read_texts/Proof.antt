@@ -1,4 +1,3 @@
-use mathlib.Core.Path.{_≡_, sym, _∙_}
 use Rattle.forms.specs.Forms.{platformForm, tasksForm}
 use Rattle.forms.specs.Reader.{read}
 use Rattle.gorsetumble.specs.Code.TextsRead.{textsRead}

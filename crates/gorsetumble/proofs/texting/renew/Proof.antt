@@ -1,6 +1,5 @@
 use borrow.Author.Tests.{eq-eqb, ne-eqb}
 use mathlib.Core.Path.{ap}
-use Rattle.machine.specs.declared.SetUp.{SetUp}
 use Rattle.gorsetumble.specs.FromTexts.{ofTable}
 use Rattle.gorsetumble.specs.Code.TextsRead.{renewed}
 use borrow.Author.Needs.{needs}

@@ -1,6 +1,5 @@
 use mathlib.Core.Path.{ap}
 use Rattle.readers.specs.declared.TableRead.{TableRead}
-use Rattle.gorsetumble.specs.declared.texting.TextsRead.{TextsRead}
 use borrow.Author.Needs.{needs}
 use Rattle.gorsetumble.proofs.texting.TextsRead.bad.Statement.{statement}
 use Rattle.gorsetumble.proofs.texting.TextsRead.bad.Tie as tie

@@ -32,3 +32,7 @@ quickAnswer t =
     cond (unrefused t)
     (record { refused = refusal t; admitted = admitted t; first = firstFailing t })
     (record { refused = refusal t; admitted = false; first = 0 })
+
+-- the full answer without its margins
+abbrev pub withoutMargins : FullAnswer → QuickAnswer
+withoutMargins a = record { refused = a .refused; admitted = a .admitted; first = a .first }

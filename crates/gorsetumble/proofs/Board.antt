@@ -1,7 +1,7 @@
 -- The board's own path: the verdict means what it should, and after a 0 the machine that the same texts set up keeps the promise.
 use Prim.Native.Nat.{ℕ, zero, suc, _+_, _≤_}
 use mathlib.Core.Path.{_≡_, refl, sym, ap, _∙_}
-use mathlib.Core.Bool.{Bool, true, false, cond}
+use mathlib.Core.Bool.{true, cond}
 use mathlib.Core.List.{List, map}
 use native.Mathlib.Omega.{arith}
 use borrow.Author.Tests.{eq-eqb, ne-eqb, le-leb, lt-leb}
@@ -16,14 +16,14 @@ use Rattle.table.specs.declared.Refusal.{Refusal}
 use Rattle.table.specs.declared.Table.{Table}
 use Rattle.table.specs.Limits.{mostTasks}
 use Rattle.table.specs.Tasks.{noTask}
-use Rattle.table.specs.Refused.{refusal, unrefused}
+use Rattle.table.specs.Refused.{refusal}
 use Rattle.table.proofs.Refusals.{refusal-carries}
 use Rattle.readers.specs.Inputs.{taskOf}
 use Rattle.admission.specs.declared.QuickAnswer.{QuickAnswer}
 use Rattle.admission.specs.Test as test
 use Rattle.admission.specs.Answers.{quickAnswer}
 use Rattle.admission.proofs.Laws.{admitted-is}
-use Rattle.admission.proofs.Answers.{first-le}
+use Rattle.admission.proofs.Answers.{quick-refusal, quick-unrefused, first-le}
 use Rattle.machine.specs.declared.Machine.{Machine}
 use Rattle.machine.specs.Fresh.{setUp}
 use Rattle.texts.specs.Given.{given}
@@ -36,21 +36,6 @@ use Rattle.gorsetumble.specs.Board.{GoodTexts, tableIn, Means, boardsNum
 use Rattle.gorsetumble.specs.FromTexts.{ofTable, setUpTexts}
 use Rattle.gorsetumble.proofs.Demands.{promised}
 
--- the quick answer on a table that is not refused
-module _ (t : Table) where
-  pub quick-refusal : quickAnswer t .refused ≡ refusal t
-  unfolding quickAnswer
-  quick-refusal = by (unrefused t)
-    where
-      by : (b : Bool) → cond {A = QuickAnswer} b (record { refused = refusal t; admitted = test.admitted t; first = test.firstFailing t }) (record { refused = refusal t; admitted = false; first = 0 }) .refused ≡ refusal t
-      by true = refl
-      by false = refl
-
-  module _ (none : refusal t .number ≡ 0) where
-    pub quick-accepted : quickAnswer t ≡ record { refused = refusal t; admitted = test.admitted t; first = test.firstFailing t }
-    unfolding quickAnswer
-    quick-accepted = rw (eq-eqb (refusal t .number) 0 none)
-
 -- the number of a table
 module _ (t : Table) where
   number-refused : (refusal t .number ≡ 0 → ⊥) → quickNumber t ≡ refusal t .number
@@ -60,7 +45,7 @@ module _ (t : Table) where
 
   module _ (none : refusal t .number ≡ 0) where
     number-first : quickNumber t ≡ cond (eqb (test.firstFailing t) 0) 0 (100 + test.firstFailing t)
-    number-first = rw (quick-accepted t none, eq-eqb (refusal t .number) 0 none)
+    number-first = rw (quick-unrefused t none, eq-eqb (refusal t .number) 0 none)
 
     number-admitted : test.admitted t ≡ true → quickNumber t ≡ 0
     number-admitted a = number-first ∙ rw (sym (admitted-is t) ∙ a)
@@ -97,7 +82,7 @@ module _ (platform tasks : List ℕ) where
           let a : test.admitted t ≡ true = admitted-is t ∙ rw e in
           rw (number-admitted t none a) (board.admitted g none a)
       first none (suc k) e =
-          let most : test.firstFailing t ≤ mostTasks = rw (quick-accepted t none) at (first-le t (whole g)) in
+          let most : test.firstFailing t ≤ mostTasks = rw (quick-unrefused t none) at (first-le t (whole g)) in
           rw (number-failing t none (suc k) (omega arith) e) (board.failing g (suc k) (omega arith) (omega (arith, most, e)) none e)
 
       by : (k : ℕ) → refusal t .number ≡ k → Means platform tasks (quickNumber t)
@@ -141,7 +126,7 @@ module _ (platform tasks : List ℕ) where
 
   -- a 0 is an admitted table
   zero-means : (v : ℕ) → Means platform tasks v → v ≡ 0 → (g : GoodTexts platform tasks) × Admitted (tableIn g)
-  zero-means v (board.admitted g none a) z = (g, record { whole = whole g; verdict = ap (λ (q : QuickAnswer). q .admitted) (quick-accepted (tableIn g) none) ∙ a })
+  zero-means v (board.admitted g none a) z = (g, record { whole = whole g; verdict = ap (λ (q : QuickAnswer). q .admitted) (quick-unrefused (tableIn g) none) ∙ a })
   zero-means v (board.refused g k l m e) z = absurd (omega arith)
   zero-means v (board.noText h) z = absurd (omega arith)
   zero-means v (board.failing g k l m none e) z = absurd (omega arith)

@@ -15,7 +15,7 @@ use Rattle.forms.specs.Reader.{keep, isDigit, grow}
 use Rattle.readers.specs.declared.Grown.{Grown}
 use Rattle.readers.specs.declared.Number.{Number}
 use Rattle.readers.specs.Places.{agreeFrom, numberFrom, numberAt}
-use Rattle.readers.specs.Code.Columns.{grownTo}
+use Rattle.readers.specs.Code.Digits.{grownTo}
 
 pub agree-end : (next : ℕ) (word bytes : List ℕ) (i : ℕ) → length word ≤ i → agreeFrom next (drop i word) bytes ≡ next
 unfolding agreeFrom

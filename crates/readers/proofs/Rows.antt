@@ -5,13 +5,13 @@ use mathlib.Core.Bool.{Bool, true, false, cond}
 use mathlib.Core.List.{List, [], _∷_, _++_, append-assoc, append-nil}
 use mathlib.Core.Option.{Option, none, some, Option·getD}
 use native.Mathlib.Nat.{le-trans}
+use native.Mathlib.Numerals.{add-one}
 use native.Mathlib.Omega.{arith}
 use borrow.Author.Tests.{eq-eqb, ne-eqb}
 use lib.Dec.{eqb}
-use lib.ListN.{length, take, drop, getD, replicate, length-drop, length-take, drop-of-length-le}
-use lib.Seq.{length-take-le, take-append-seam}
+use lib.ListN.{length, drop, getD, replicate, length-drop, drop-of-length-le}
+use lib.Seq.{drop-cons}
 use Rattle.maths.specs.Padded.{padded}
-use Rattle.maths.proofs.Lists.{front}
 use Rattle.maths.proofs.Padded.{getD-padded}
 use Rattle.forms.specs.Bytes.{comma}
 use Rattle.forms.specs.Forms
@@ -20,12 +20,11 @@ use Rattle.forms.specs.Reader.{grow}
 use Rattle.forms.proofs.Grow.{GrownIf, grown}
 use Rattle.forms.proofs.Lines.{within-snoc}
 use Rattle.forms.proofs.Sizes.{within-getD}
-use Rattle.readers.specs.declared.Columns.{Columns}
 use Rattle.readers.specs.declared.Number.{Number}
 use Rattle.readers.specs.declared.Cell.{Cell}
 use Rattle.readers.specs.declared.Row.{Row}
 use Rattle.readers.specs.Places.{agreeFrom, agreeAt, numberFrom, numberAt, endedBy, cellAt, mostColumns, rowFrom, rowAt}
-use Rattle.readers.specs.Code.Columns.{columnsOf, held, Narrow}
+use Rattle.readers.specs.Code.Digits.{Narrow}
 
 agree-bound : (next : ℕ) (word bytes : List ℕ) → agreeFrom next word bytes ≤ next + length bytes
 unfolding agreeFrom
@@ -101,28 +100,25 @@ module _ (most : ℕ) (text : List ℕ) (at : ℕ) (word : List ℕ) where
       go false = number-at-bounded most text at .fits
 
 -- what is to come of a row, from column j on, counted from 0
-module _ (text numbers mosts : List ℕ) (count j next : ℕ) (less : j < count) (fits : count ≤ length mosts) (x : Cell)
-    (e : x ≡ cellAt (getD mosts j 0) text next (ending (count - j - 1))) where
-  this : rowFrom text numbers (drop j (take count mosts)) next
-      ≡ cond (x .whole) (rowFrom text (numbers ++ (x .value ∷ [])) (drop (j + 1) (take count mosts)) (x .next)) (record { numbers = padded mostColumns 0 []; next = x .next; whole = false })
+module _ (text numbers mosts : List ℕ) (j next : ℕ) (less : j < length mosts) (x : Cell)
+    (e : x ≡ cellAt (getD mosts j 0) text next (ending (length mosts - j - 1))) where
+  this : rowFrom text numbers (drop j mosts) next
+      ≡ cond (x .whole) (rowFrom text (numbers ++ (x .value ∷ [])) (drop (j + 1) mosts) (x .next)) (record { numbers = padded mostColumns 0 []; next = x .next; whole = false })
   unfolding rowFrom
   this =
-      let left : length (drop (j + 1) (take count mosts)) ≡ count - j - 1 = length-drop (j + 1) (take count mosts) ∙ rw (length-take-le count mosts fits) (omega arith) in
-      rw (front 0 count mosts j less fits) (rw (left, ← e))
+      let left : length (drop (suc j) mosts) ≡ length mosts - j - 1 = length-drop (suc j) mosts ∙ omega arith in
+      rw add-one (rw (drop-cons mosts j 0 less) (rw (left, ← e)))
 
-  pub row-more : x .whole ≡ true
-      → rowFrom text numbers (drop j (take count mosts)) next ≡ rowFrom text (numbers ++ (x .value ∷ [])) (drop (j + 1) (take count mosts)) (x .next)
+  pub row-more : x .whole ≡ true → rowFrom text numbers (drop j mosts) next ≡ rowFrom text (numbers ++ (x .value ∷ [])) (drop (j + 1) mosts) (x .next)
   row-more h = this ∙ rw h
 
-  pub row-stop : x .whole ≡ false → rowFrom text numbers (drop j (take count mosts)) next ≡ record { numbers = padded mostColumns 0 []; next = x .next; whole = false }
+  pub row-stop : x .whole ≡ false → rowFrom text numbers (drop j mosts) next ≡ record { numbers = padded mostColumns 0 []; next = x .next; whole = false }
   row-stop h = this ∙ rw h
 
-pub row-end : (text numbers mosts : List ℕ) (count j next : ℕ) → count ≤ j
-    → rowFrom text numbers (drop j (take count mosts)) next ≡ record { numbers = padded mostColumns 0 numbers; next = next; whole = true }
+pub row-end : (text numbers mosts : List ℕ) (j next : ℕ) → length mosts ≤ j
+    → rowFrom text numbers (drop j mosts) next ≡ record { numbers = padded mostColumns 0 numbers; next = next; whole = true }
 unfolding rowFrom
-row-end text numbers mosts count j next h =
-    let done : drop j (take count mosts) ≡ [] = drop-of-length-le (take count mosts) {i = j} (simp length-take (omega arith)) in
-    rw done
+row-end text numbers mosts j next h = rw (drop-of-length-le mosts {i = j} h)
 
 module _ (text : List ℕ) where
   pub row-inside : (numbers mosts : List ℕ) (at : ℕ) → at ≤ length text → rowFrom text numbers mosts at .next ≤ length text
@@ -159,13 +155,6 @@ module _ (text : List ℕ) where
 
   pub row-most : (mosts : List ℕ) (at i : ℕ) → i < mostColumns → getD (rowFrom text [] mosts at .numbers) i 0 ≤ getD mosts i 0
   row-most mosts at i l = row-within [] [] mosts at i Forms.none l
-
--- what the code reads by a form's columns is the form's row
-pub row-of : (F : Form) (text : List ℕ) (at : ℕ) (cs : Columns) → cs ≡ columnsOf F → (x : Row) → x ≡ rowFrom text [] (held cs) at → x ≡ rowAt text at F
-row-of F text at cs e x f =
-    f
-    ∙ ap (λ (y : Columns). rowFrom text [] (held y) at) e
-    ∙ ap (λ (ms : List ℕ). rowFrom text [] ms at) (take-append-seam (columns F) (replicate (mostColumns - length (columns F)) 0))
 
 replicate-most : (n i : ℕ) → getD (replicate n largest) i 0 ≤ largest
 replicate-most zero i = omega arith

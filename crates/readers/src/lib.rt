@@ -10,7 +10,7 @@ ghost use Rattle.forms.specs.Reads.{refused};
 ghost use Rattle.forms.specs.Reader.{read};
 ghost use Rattle.readers.specs.Inputs.{noPlatform, taskOf, platformRead, tableRead, ticksRead, tickAt};
 ghost use Rattle.readers.specs.Places.{agreeAt, numberAt, cellAt, mostColumns, rowFrom};
-ghost use Rattle.readers.specs.Code.Columns.{grownTo, columnsOf, held, Narrow};
+ghost use Rattle.readers.specs.Code.Digits.{grownTo, Narrow};
 use table::Cores;
 use table::Partitions;
 use table::Platform;
@@ -49,43 +49,8 @@ impl Row {
     const MOST: usize = 4;
 }
 
-// The columns of a form: how many, and the largest number of each.
-struct Columns {
-    count: usize,
-    most: [u64; Row::MOST],
-}
-
-impl Columns {
-    // The largest number of a column of 32 bits.
-    const LARGEST: u64 = 4_294_967_295;
-
-    fn platform() -> Columns
-        ensures { λ r. ⌜ r ≡ columnsOf platformForm ⌝ }
-    {
-        Columns {
-            count: 2,
-            most: [Columns::LARGEST, Columns::LARGEST, 0, 0],
-        }
-    }
-
-    fn tasks() -> Columns
-        ensures { λ r. ⌜ r ≡ columnsOf tasksForm ⌝ }
-    {
-        Columns {
-            count: Row::MOST,
-            most: [Columns::LARGEST; Row::MOST],
-        }
-    }
-
-    fn ticks() -> Columns
-        ensures { λ r. ⌜ r ≡ columnsOf ticksForm ⌝ }
-    {
-        Columns {
-            count: 2,
-            most: [Columns::LARGEST, Columns::LARGEST, 0, 0],
-        }
-    }
-}
+// The largest number of a column of 32 bits.
+const LARGEST: u64 = 4_294_967_295;
 
 // The place up to which the text agrees with the word.
 fn agree_at(s: &[u8], at: usize, word: &[u8]) -> usize
@@ -218,18 +183,16 @@ fn cell_at(s: &[u8], at: usize, most: u64, left: usize) -> Cell
     }
 }
 
-// The row at a place, of these columns.
-fn row_at(s: &[u8], at: usize, columns: Columns) -> Row
-    requires { ⌜ (at ≤ length (now s)) × (columns .count ≤ mostColumns) ⌝ }
-    ensures { λ r. ⌜ r ≡ rowFrom (now (s .entry)) [] (held columns) at ⌝ }
+// The row at a place, of columns whose largest numbers these are.
+fn row_at(s: &[u8], at: usize, columns: &[u64]) -> Row
+    requires { ⌜ (at ≤ length (now s)) × (length (now columns) ≤ mostColumns) ⌝ }
+    ensures { λ r. ⌜ r ≡ rowFrom (now (s .entry)) [] (now (columns .entry)) at ⌝ }
 {
-    let count = columns.count;
-    let most = columns.most;
     let mut numbers = [0u64; Row::MOST];
     let mut next = at;
     let mut j: usize = 0;
-    while j < count {
-        let c = cell_at(s, next, most[j], count - j - 1);
+    while j < columns.len() {
+        let c = cell_at(s, next, columns[j], columns.len() - j - 1);
         if !c.whole {
             return Row {
                 numbers: [0u64; Row::MOST],
@@ -278,7 +241,8 @@ pub fn read_platform(s: &[u8]) -> PlatformRead
     if at < 18 {
         return PlatformRead::bad(at);
     }
-    let r = row_at(s, at, Columns::platform());
+    let columns = [LARGEST; 2];
+    let r = row_at(s, at, &columns);
     if !r.whole {
         return PlatformRead::bad(r.next);
     }
@@ -337,9 +301,10 @@ pub fn read_tasks(s: &[u8], platform: Platform) -> TableRead
         return TableRead::bad(at);
     }
     let mut rows = [Task::none(); Table::MOST];
+    let columns = [LARGEST; Row::MOST];
     let mut n: usize = 0;
     while at < s.len() {
-        let r = row_at(s, at, Columns::tasks());
+        let r = row_at(s, at, &columns);
         if !r.whole {
             return TableRead::bad(r.next);
         }
@@ -403,9 +368,10 @@ pub fn read_ticks(s: &[u8]) -> TicksRead
     if at < Tick::FIRST {
         return TicksRead::bad(at);
     }
+    let columns = [LARGEST; 2];
     let mut n: usize = 0;
     while at < s.len() {
-        let r = row_at(s, at, Columns::ticks());
+        let r = row_at(s, at, &columns);
         let next = r.next;
         if !r.whole {
             return TicksRead::bad(next);
@@ -432,7 +398,8 @@ pub fn tick_at(s: &[u8], at: usize) -> TickRead
             next: at,
         };
     }
-    let r = row_at(s, at, Columns::ticks());
+    let columns = [LARGEST; 2];
+    let r = row_at(s, at, &columns);
     TickRead {
         tick: Tick {
             released: r.numbers[0] as u32,

@@ -88,7 +88,7 @@ fn run_room(m: Machine, s: &[u8], room: usize) -> Room
     while run.at < s.len() {
         run = run.on(s);
         let line = run.line;
-        let row = writers::line_room(line, 5, left);
+        let row = writers::line_room(&line, left);
         if !row.enough {
             return row;
         }
@@ -109,7 +109,7 @@ fn put_run(m: Machine, s: &[u8], out: &mut [u8]) -> usize
     while run.at < s.len() {
         run = run.on(s);
         let line = run.line;
-        next = writers::add_line(out, next, line, 5);
+        next = writers::add_line(out, next, &line);
     }
     next
 }

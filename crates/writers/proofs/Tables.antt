@@ -7,7 +7,7 @@ use native.Mathlib.Decide.{decLe}
 use lib.ListN.{length, take, drop, getD, length-take, drop-of-length-le}
 use lib.Seq.{take-all}
 use Rattle.maths.proofs.Lists.{front}
-use Rattle.forms.specs.Forms.{columns, tasksForm, crlf, line, lines, text}
+use Rattle.forms.specs.Forms.{tasksForm, crlf, line, lines, text}
 use Rattle.table.specs.declared.Task.{Task}
 use Rattle.table.specs.declared.Table.{Table}
 use Rattle.table.specs.Limits.{mostTasks}
@@ -30,8 +30,8 @@ module _ (t : Table) (size : length (t .rows) ≡ mostTasks) (n : ℕ) (e : n �
   unfolding text
   tasks-split = rw same-rows
 
-  pub rows-more : (i : ℕ) → i < n → (numbers : List ℕ) → take (length (columns tasksForm)) numbers ≡ taskRow (getD (t .rows) i noTask)
-      → rowsFrom t n i ≡ line (take (length (columns tasksForm)) numbers) ++ rowsFrom t n (i + 1)
+  pub rows-more : (i : ℕ) → i < n → (numbers : List ℕ) → numbers ≡ taskRow (getD (t .rows) i noTask)
+      → rowsFrom t n i ≡ line numbers ++ rowsFrom t n (i + 1)
   unfolding lines
   rows-more i less numbers f = rw (front noTask n (t .rows) i less (omega arith), f)
 

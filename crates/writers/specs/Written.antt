@@ -42,10 +42,6 @@ pub record WroteBoth (a b first second : List ℕ) (answer : TextsWritten) (afte
   pub holds₁ : after₁ ≡ cond (bothFit a b first second) (a ++ drop (length a) first) first
   pub holds₂ : after₂ ≡ cond (bothFit a b first second) (b ++ drop (length b) second) second
 
--- no row has more numbers: `WIDEST`, of the listing of ticks
-abbrev pub widest : ℕ
-widest = 5
-
 -- whether a text fits, and how much room it leaves
 unfoldable pub roomFor : List ℕ → ℕ → Room
 roomFor text room =

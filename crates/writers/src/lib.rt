@@ -4,11 +4,11 @@ ghost use mathlib.Core.Path.{_≡_};
 ghost use mathlib.Core.List.{[], _∷_, _++_};
 ghost use lib.ListN.{length, take};
 ghost use Rattle.forms.specs.Digits.{digits};
-ghost use Rattle.forms.specs.Forms.{columns, platformForm, tasksForm, ticksForm, ending, line};
+ghost use Rattle.forms.specs.Forms.{ending, line};
 ghost use Rattle.writers.specs.Outputs.{platformRow, platformText, taskRow, tasksText, reportsText, refusedRow, refusedText, marginsText};
 ghost use Rattle.table.specs.Limits.{mostTasks};
 ghost use Rattle.writers.specs.Signed.{marginOf, sign, marginRow};
-ghost use Rattle.writers.specs.Written.{widest, roomFor, tooShort, Wrote, WroteBoth, Added};
+ghost use Rattle.writers.specs.Written.{roomFor, tooShort, Wrote, WroteBoth, Added};
 ghost use Rattle.writers.specs.Code.Put.{Put};
 ghost use Rattle.table.specs.Refused.{noRefusal};
 use table::Platform;
@@ -28,17 +28,8 @@ pub struct Room {
     pub left: usize,
 }
 
-// The most numbers that a row has.
-pub const WIDEST: usize = 5;
-
-// The columns of a platform text, of a tasks text and of a ticks text, and of the listing of a refusal.
-const PLATFORM: usize = 2;
-
+// The columns of a tasks text.
 const TASK: usize = 4;
-
-const TICK: usize = 2;
-
-const REFUSED: usize = 2;
 
 // How many digits a number has.
 fn width(n: u64) -> usize
@@ -126,28 +117,28 @@ fn cell_room(n: u64, left: usize, room: usize) -> Room
     }
 }
 
-// A row of the first numbers, so many as there are columns.
-fn put_row(buf: &mut [u8], at: usize, numbers: [u64; WIDEST], columns: usize) -> usize
-    requires { ⌜ (columns ≤ widest) × (at + length (line (take columns numbers)) ≤ length (now buf)) ⌝ }
-    ensures { λ r. ⌜ Put (now (buf .entry)) at (line (take columns numbers)) r (now (buf .exit)) ⌝ }
+// A row of the numbers.
+fn put_row(buf: &mut [u8], at: usize, numbers: &[u64]) -> usize
+    requires { ⌜ at + length (line (now numbers)) ≤ length (now buf) ⌝ }
+    ensures { λ r. ⌜ Put (now (buf .entry)) at (line (now (numbers .entry))) r (now (buf .exit)) ⌝ }
 {
     let mut next = at;
     let mut j: usize = 0;
-    while j < columns {
-        next = put_cell(buf, next, numbers[j], columns - j - 1);
+    while j < numbers.len() {
+        next = put_cell(buf, next, numbers[j], numbers.len() - j - 1);
         j += 1;
     }
     next
 }
 
-fn row_room(numbers: [u64; WIDEST], columns: usize, room: usize) -> Room
-    requires { ⌜ columns ≤ widest ⌝ }
-    ensures { λ r. ⌜ r ≡ roomFor (line (take columns numbers)) room ⌝ }
+// What is left of some room behind a row of the numbers.
+pub fn line_room(numbers: &[u64], room: usize) -> Room
+    ensures { λ r. ⌜ r ≡ roomFor (line (now (numbers .entry))) room ⌝ }
 {
     let mut left = room;
     let mut j: usize = 0;
-    while j < columns {
-        let m = cell_room(numbers[j], columns - j - 1, left);
+    while j < numbers.len() {
+        let m = cell_room(numbers[j], numbers.len() - j - 1, left);
         if !m.enough {
             return Room {
                 enough: false,
@@ -198,38 +189,33 @@ impl Written {
     }
 }
 
-fn one_room(header: &[u8], numbers: [u64; WIDEST], columns: usize, room: usize) -> Room
-    requires { ⌜ columns ≤ widest ⌝ }
-    ensures { λ r. ⌜ r ≡ roomFor (now (header .entry) ++ line (take columns numbers)) room ⌝ }
+fn one_room(header: &[u8], numbers: &[u64], room: usize) -> Room
+    ensures { λ r. ⌜ r ≡ roomFor (now (header .entry) ++ line (now (numbers .entry))) room ⌝ }
 {
     let head = word_room(header, room);
     if !head.enough {
         return head;
     }
-    row_room(numbers, columns, head.left)
+    line_room(numbers, head.left)
 }
 
 // A header line and one row.
-fn write_one(buf: &mut [u8], header: &[u8], numbers: [u64; WIDEST], columns: usize) -> Written
-    requires { ⌜ columns ≤ widest ⌝ }
-    ensures { λ r. ⌜ Wrote (now (header .entry) ++ line (take columns numbers)) (now (buf .entry)) r (now (buf .exit)) ⌝ }
+fn write_one(buf: &mut [u8], header: &[u8], numbers: &[u64]) -> Written
+    ensures { λ r. ⌜ Wrote (now (header .entry) ++ line (now (numbers .entry))) (now (buf .entry)) r (now (buf .exit)) ⌝ }
 {
-    let m = one_room(header, numbers, columns, buf.len());
+    let m = one_room(header, numbers, buf.len());
     if !m.enough {
         return Written::short();
     }
     let next = put_word(buf, 0, header);
-    let end = put_row(buf, next, numbers, columns);
+    let end = put_row(buf, next, numbers);
     Written::whole(end)
 }
 
-fn platform_numbers(p: Platform) -> [u64; WIDEST]
-    ensures { λ r. ⌜ take (length (columns platformForm)) r ≡ platformRow p ⌝ }
+fn platform_numbers(p: Platform) -> [u64; 2]
+    ensures { λ r. ⌜ r ≡ platformRow p ⌝ }
 {
-    let mut numbers = [0u64; WIDEST];
-    numbers[0] = p.cores.0 as u64;
-    numbers[1] = p.partitions.0 as u64;
-    numbers
+    [p.cores.0 as u64, p.partitions.0 as u64]
 }
 
 // The text of a platform.
@@ -237,16 +223,13 @@ pub fn write_platform(p: Platform, buf: &mut [u8]) -> Written
     ensures { λ r. ⌜ Wrote (platformText p) (now (buf .entry)) r (now (buf .exit)) ⌝ }
 {
     let numbers = platform_numbers(p);
-    write_one(buf, b"cores,partitions\r\n", numbers, PLATFORM)
+    write_one(buf, b"cores,partitions\r\n", &numbers)
 }
 
-fn refused_numbers(r: Refusal) -> [u64; WIDEST]
-    ensures { λ n. ⌜ take 2 n ≡ refusedRow r ⌝ }
+fn refused_numbers(r: Refusal) -> [u64; 2]
+    ensures { λ n. ⌜ n ≡ refusedRow r ⌝ }
 {
-    let mut numbers = [0u64; WIDEST];
-    numbers[0] = r.number as u64;
-    numbers[1] = r.row as u64;
-    numbers
+    [r.number as u64, r.row as u64]
 }
 
 // The listing of a refused table or text.
@@ -254,18 +237,13 @@ pub fn write_refused(r: Refusal, buf: &mut [u8]) -> Written
     ensures { λ w. ⌜ Wrote (refusedText r) (now (buf .entry)) w (now (buf .exit)) ⌝ }
 {
     let numbers = refused_numbers(r);
-    write_one(buf, b"refused,row\r\n", numbers, REFUSED)
+    write_one(buf, b"refused,row\r\n", &numbers)
 }
 
-fn task_numbers(t: Task) -> [u64; WIDEST]
-    ensures { λ r. ⌜ take (length (columns tasksForm)) r ≡ taskRow t ⌝ }
+fn task_numbers(t: Task) -> [u64; TASK]
+    ensures { λ r. ⌜ r ≡ taskRow t ⌝ }
 {
-    let mut numbers = [0u64; WIDEST];
-    numbers[0] = t.d as u64;
-    numbers[1] = t.t as u64;
-    numbers[2] = t.c as u64;
-    numbers[3] = t.a.0 as u64;
-    numbers
+    [t.d as u64, t.t as u64, t.c as u64, t.a.0 as u64]
 }
 
 fn fewer(a: usize, b: usize) -> usize
@@ -287,7 +265,7 @@ fn tasks_room(t: Table, room: usize) -> Room
     while i < n {
         let task = t.rows[i];
         let numbers = task_numbers(task);
-        let row = row_room(numbers, TASK, left);
+        let row = line_room(&numbers, left);
         if !row.enough {
             return row;
         }
@@ -310,7 +288,7 @@ fn put_tasks(buf: &mut [u8], t: Table) -> usize
     while i < n {
         let task = t.rows[i];
         let numbers = task_numbers(task);
-        next = put_row(buf, next, numbers, TASK);
+        next = put_row(buf, next, &numbers);
         i += 1;
     }
     next
@@ -465,13 +443,10 @@ pub fn write_margins(n: usize, margins: [i64; Table::MOST], buf: &mut [u8]) -> W
     Written::whole(end)
 }
 
-fn tick_numbers(released: u32, finished: u32) -> [u64; WIDEST]
-    ensures { λ r. ⌜ take (length (columns ticksForm)) r ≡ released ∷ finished ∷ [] ⌝ }
+fn tick_numbers(released: u32, finished: u32) -> [u64; 2]
+    ensures { λ r. ⌜ r ≡ released ∷ finished ∷ [] ⌝ }
 {
-    let mut numbers = [0u64; WIDEST];
-    numbers[0] = released as u64;
-    numbers[1] = finished as u64;
-    numbers
+    [released as u64, finished as u64]
 }
 
 fn ticks_room(released: &[u32], finished: &[u32], room: usize) -> Room
@@ -486,7 +461,7 @@ fn ticks_room(released: &[u32], finished: &[u32], room: usize) -> Room
     let mut i: usize = 0;
     while i < n {
         let numbers = tick_numbers(released[i], finished[i]);
-        let row = row_room(numbers, TICK, left);
+        let row = line_room(&numbers, left);
         if !row.enough {
             return row;
         }
@@ -508,7 +483,7 @@ fn put_ticks(buf: &mut [u8], released: &[u32], finished: &[u32]) -> usize
     let mut i: usize = 0;
     while i < n {
         let numbers = tick_numbers(released[i], finished[i]);
-        next = put_row(buf, next, numbers, TICK);
+        next = put_row(buf, next, &numbers);
         i += 1;
     }
     next
@@ -551,7 +526,7 @@ pub fn write_texts(t: Table, platform: &mut [u8], tasks: &mut [u8]) -> TextsWrit
 {
     let p = t.platform;
     let numbers = platform_numbers(p);
-    let first = one_room(b"cores,partitions\r\n", numbers, PLATFORM, platform.len());
+    let first = one_room(b"cores,partitions\r\n", &numbers, platform.len());
     if !first.enough {
         return TextsWritten::short();
     }
@@ -566,13 +541,6 @@ pub fn write_texts(t: Table, platform: &mut [u8], tasks: &mut [u8]) -> TextsWrit
         platform: a.length,
         tasks: b.length,
     }
-}
-
-// What is left of some room behind a row of the first numbers, so many as there are columns.
-pub fn line_room(numbers: [u64; WIDEST], columns: usize, room: usize) -> Room
-    ensures { λ r. ⌜ r ≡ roomFor (line (take columns numbers)) room ⌝ }
-{
-    row_room(numbers, fewer(columns, WIDEST), room)
 }
 
 // The word at a place of the buffer, if it has room there, and the place behind it.
@@ -590,16 +558,15 @@ pub fn add_word(buf: &mut [u8], at: usize, word: &[u8]) -> usize
 }
 
 // A row at a place of the buffer, if it has room there, and the place behind it.
-pub fn add_line(buf: &mut [u8], at: usize, numbers: [u64; WIDEST], columns: usize) -> usize
-    ensures { λ r. ⌜ Added (now (buf .entry)) at (line (take columns numbers)) r (now (buf .exit)) ⌝ }
+pub fn add_line(buf: &mut [u8], at: usize, numbers: &[u64]) -> usize
+    ensures { λ r. ⌜ Added (now (buf .entry)) at (line (now (numbers .entry))) r (now (buf .exit)) ⌝ }
 {
     if buf.len() < at {
         return at;
     }
-    let n = fewer(columns, WIDEST);
-    let m = row_room(numbers, n, buf.len() - at);
+    let m = line_room(numbers, buf.len() - at);
     if !m.enough {
         return at;
     }
-    put_row(buf, at, numbers, n)
+    put_row(buf, at, numbers)
 }

@@ -7,17 +7,17 @@ use borrow.Author.Tests.{not-true, not-false}
 use lib.ListN.{length}
 use Rattle.forms.specs.Forms.{tasksForm}
 use Rattle.readers.specs.Inputs.{tableRead}
-use Rattle.readers.proofs.Rows.{row-of, row-narrow}
+use Rattle.readers.proofs.Rows.{row-narrow}
 use Rattle.readers.proofs.Texts.{head-bad}
 use Rattle.readers.proofs.Tasks.{Here, here-start, here-end, here-bad, here-far, here-kept, here-full}
 use Rattle.readers.proofs.read_tasks.Statement.{statement}
 use Rattle.readers.proofs.read_tasks.Tie as tie
 
 abbrev Inv-loop : tie.InvT-loop
-Inv-loop s platform at₀ rows₀ n₀ at rows n = Here s at rows n
+Inv-loop s platform at₀ rows₀ columns n₀ at rows n = Here s at rows n
 
 abbrev μ-loop : tie.MeasureT-loop
-μ-loop s platform at₀ rows₀ n₀ at rows n = length s - at
+μ-loop s platform at₀ rows₀ columns n₀ at rows n = length s - at
 
 slice-aggregate-agree-at : tie.Need-slice-aggregate-agree-at Inv-loop μ-loop
 slice-aggregate-agree-at c = search needs
@@ -41,11 +41,11 @@ loop-holds c =
     let args = c .before .before .before .before .before .args in
     rw (c .none .ensures) (here-start (args .s .now) _ (c .before .before .agree-at .ensures) (c .before .if1 .left))
 
-tasks-requires : tie.Need-tasks-requires Inv-loop μ-loop
-tasks-requires c κs = search needs
+slice-aggregate-row-at : tie.Need-slice-aggregate-row-at Inv-loop μ-loop
+slice-aggregate-row-at c = search needs
 
 row-at-requires : tie.Need-row-at-requires Inv-loop μ-loop
-row-at-requires c κs = (c .before .before .loop .inv .line .inside, rw (c .tasks .ensures) (omega arith))
+row-at-requires c κs = (c .before .before .loop .inv .line .inside, omega arith)
 
 bad-requires-2 : tie.Need-bad-requires-2 Inv-loop μ-loop
 bad-requires-2 c κs = search needs
@@ -55,15 +55,14 @@ returns-2 c =
     let x = c .before .before .before in
     let k = x .before .before .before in
     let args = k .before .before .before .before .before .before .args in
-    let row = row-of tasksForm _ _ _ (x .before .tasks .ensures) _ (x .row-at .ensures) in
     c .bad2 .ensures
     ∙ ap (tableRead (args .platform))
-    (sym (here-bad _ _ _ _ (k .loop .inv) (x .before .before .loop-test .taken) _ row (not-true _ (c .before .if2 .taken))))
+    (sym (here-bad _ _ _ _ (k .loop .inv) (x .before .before .loop-test .taken) _ (x .row-at .ensures) (not-true _ (c .before .if2 .taken))))
 
 task-of-requires : tie.Need-task-of-requires Inv-loop μ-loop
 task-of-requires c κs =
     let x = c .before .before .before .before in
-    row-narrow tasksForm 4 refl _ _ _ (row-of tasksForm _ _ _ (x .before .tasks .ensures) _ (x .row-at .ensures))
+    row-narrow tasksForm 4 refl _ _ _ (x .row-at .ensures)
 
 mul-rows : tie.Need-mul-rows Inv-loop μ-loop
 mul-rows c = search needs
@@ -78,20 +77,18 @@ loop-less : tie.Need-loop-less Inv-loop μ-loop
 loop-less c =
     let x = c .before .before .before .before in
     let k = x .before .before .before in
-    let row = row-of tasksForm _ _ _ (x .before .tasks .ensures) _ (x .row-at .ensures) in
-    let far = here-far _ _ _ _ (k .loop .inv) (x .before .before .loop-test .taken) _ row (not-false _ (c .before .before .if2 .left)) in
+    let far = here-far _ _ _ _ (k .loop .inv) (x .before .before .loop-test .taken) _ (x .row-at .ensures) (not-false _ (c .before .before .if2 .left)) in
     omega arith
 
 loop-again : tie.Need-loop-again Inv-loop μ-loop
 loop-again c =
     let x = c .before .before .before .before in
     let k = x .before .before .before in
-    let row = row-of tasksForm _ _ _ (x .before .tasks .ensures) _ (x .row-at .ensures) in
     let test = x .before .before .loop-test .taken in
     let good = not-false _ (c .before .before .if2 .left) in
     ⊎-elim
-    (λ w. rw (w .2) (here-kept _ _ _ _ (k .loop .inv) test _ row good (w .0 .taken) _ (w .1 .ensures)))
-    (λ w. rw (w .1) (here-full _ _ _ _ (k .loop .inv) test _ row good (w .0 .left)))
+    (λ w. rw (w .2) (here-kept _ _ _ _ (k .loop .inv) test _ (x .row-at .ensures) good (w .0 .taken) _ (w .1 .ensures)))
+    (λ w. rw (w .1) (here-full _ _ _ _ (k .loop .inv) test _ (x .row-at .ensures) good (w .0 .left)))
     (c .if3 .came)
 
 returns-3 : tie.Need-returns-3 Inv-loop μ-loop
@@ -112,7 +109,7 @@ read-tasks-spec =
     returns
     none-requires
     loop-holds
-    tasks-requires
+    slice-aggregate-row-at
     row-at-requires
     bad-requires-2
     returns-2

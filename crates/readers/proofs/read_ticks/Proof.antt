@@ -6,17 +6,16 @@ use borrow.Author.Tests.{not-true, not-false}
 use lib.ListN.{length}
 use Rattle.forms.specs.Forms.{ticksForm}
 use Rattle.readers.specs.Inputs.{ticksRead}
-use Rattle.readers.proofs.Rows.{row-of}
 use Rattle.readers.proofs.Texts.{head-bad, line-start, line-end, line-bad, line-row, line-next}
 use Rattle.readers.proofs.Ticks.{Counted}
 use Rattle.readers.proofs.read_ticks.Statement.{statement}
 use Rattle.readers.proofs.read_ticks.Tie as tie
 
 abbrev Inv-loop : tie.InvT-loop
-Inv-loop s at₀ n₀ at n = Counted s at n
+Inv-loop s at₀ columns n₀ at n = Counted s at n
 
 abbrev μ-loop : tie.MeasureT-loop
-μ-loop s at₀ n₀ at n = length s - at
+μ-loop s at₀ columns n₀ at n = length s - at
 
 slice-aggregate-agree-at : tie.Need-slice-aggregate-agree-at Inv-loop μ-loop
 slice-aggregate-agree-at c = search needs
@@ -35,11 +34,11 @@ loop-holds c =
     let args = c .before .before .before .before .args in
     record { rows = _; line = line-start ticksForm refl (args .s .now) _ (c .before .agree-at .ensures) (c .if1 .left) }
 
-ticks-requires : tie.Need-ticks-requires Inv-loop μ-loop
-ticks-requires c κs = search needs
+slice-aggregate-row-at : tie.Need-slice-aggregate-row-at Inv-loop μ-loop
+slice-aggregate-row-at c = search needs
 
 row-at-requires : tie.Need-row-at-requires Inv-loop μ-loop
-row-at-requires c κs = (c .before .before .loop .inv .line .inside, rw (c .ticks .ensures) (omega arith))
+row-at-requires c κs = (c .before .before .loop .inv .line .inside, omega arith)
 
 bad-requires-2 : tie.Need-bad-requires-2 Inv-loop μ-loop
 bad-requires-2 c κs = search needs
@@ -49,9 +48,8 @@ returns-2 c =
     let e = c .before in
     let x = e .before .before in
     let k = x .before .before .before in
-    let row = row-of ticksForm _ _ _ (x .before .ticks .ensures) _ (x .row-at .ensures) in
     c .bad2 .ensures
-    ∙ sym (ap ticksRead (line-bad ticksForm refl _ _ _ _ (k .loop .inv .line) (x .before .before .loop-test .taken) _ row (not-true _ (e .if2 .taken))))
+    ∙ sym (ap ticksRead (line-bad ticksForm refl _ _ _ _ (k .loop .inv .line) (x .before .before .loop-test .taken) _ (x .row-at .ensures) (not-true _ (e .if2 .taken))))
 
 add-n : tie.Need-add-n Inv-loop μ-loop
 add-n c =
@@ -64,8 +62,7 @@ loop-less : tie.Need-loop-less Inv-loop μ-loop
 loop-less c =
     let x = c .before .before in
     let k = x .before .before .before in
-    let row = row-of ticksForm _ _ _ (x .before .ticks .ensures) _ (x .row-at .ensures) in
-    let on = line-row ticksForm refl _ _ _ _ (k .loop .inv .line) (x .before .before .loop-test .taken) _ row (not-false _ (c .if2 .left)) in
+    let on = line-row ticksForm refl _ _ _ _ (k .loop .inv .line) (x .before .before .loop-test .taken) _ (x .row-at .ensures) (not-false _ (c .if2 .left)) in
     let far = on .far in
     omega arith
 
@@ -73,10 +70,9 @@ loop-again : tie.Need-loop-again Inv-loop μ-loop
 loop-again c =
     let x = c .before .before in
     let k = x .before .before .before in
-    let row = row-of ticksForm _ _ _ (x .before .ticks .ensures) _ (x .row-at .ensures) in
     record {
       rows = _;
-      line = line-next ticksForm refl _ _ _ _ (k .loop .inv .line) (x .before .before .loop-test .taken) _ row (not-false _ (c .if2 .left));
+      line = line-next ticksForm refl _ _ _ _ (k .loop .inv .line) (x .before .before .loop-test .taken) _ (x .row-at .ensures) (not-false _ (c .if2 .left));
     }
 
 returns-3 : tie.Need-returns-3 Inv-loop μ-loop
@@ -95,7 +91,7 @@ read-ticks-spec =
     bad-requires
     returns
     loop-holds
-    ticks-requires
+    slice-aggregate-row-at
     row-at-requires
     bad-requires-2
     returns-2

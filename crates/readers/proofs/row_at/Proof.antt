@@ -14,27 +14,24 @@ use Rattle.readers.proofs.row_at.Statement.{statement}
 use Rattle.readers.proofs.row_at.Tie as tie
 
 abbrev Inv-loop : tie.InvT-loop
-Inv-loop s at count most numbers₀ next₀ j₀ numbers next j =
-    (j ≤ count)
+Inv-loop s at columns numbers₀ next₀ j₀ numbers next j =
+    (j ≤ length columns)
     × (next ≤ length s)
     × (padded mostColumns 0 (take j numbers) ≡ numbers)
-    × (rowFrom s [] (take count most) at ≡ rowFrom s (take j numbers) (drop j (take count most)) next)
+    × (rowFrom s [] columns at ≡ rowFrom s (take j numbers) (drop j columns) next)
 
 abbrev μ-loop : tie.MeasureT-loop
-μ-loop s at count most numbers₀ next₀ j₀ numbers next j = count - j
-
-columns-4 : (c : tie.Start Inv-loop μ-loop) → length (c .args .columns .most) ≡ mostColumns
-columns-4 c = search needs
+μ-loop s at columns numbers₀ next₀ j₀ numbers next j = length columns - j
 
 loop-holds : tie.Need-loop-holds Inv-loop μ-loop
 unfolding padded
-loop-holds c = (search needs, search needs, refl, refl)
+loop-holds c = (omega arith, search needs, refl, refl)
 
 mul-cell-at : tie.Need-mul-cell-at Inv-loop μ-loop
 mul-cell-at c = search needs
 
-array-read-cell-at : tie.Need-array-read-cell-at Inv-loop μ-loop
-array-read-cell-at c = search needs
+shared-slice-read-cell-at : tie.Need-shared-slice-read-cell-at Inv-loop μ-loop
+shared-slice-read-cell-at c = search needs
 
 sub-cell-at : tie.Need-sub-cell-at Inv-loop μ-loop
 sub-cell-at c = search needs
@@ -48,10 +45,10 @@ cell-at-requires c κs = search needs
 returns : tie.Need-returns Inv-loop μ-loop
 unfolding padded
 returns c =
-    let k = c .before .before .before .before in
+    let k = c .before .before .before .before .before in
     let s = k .before .before .before in
-    let columns = s .args .columns in
-    sym (k .loop .inv .3 ∙ row-stop (s .args .s .now) _ (columns .most) (columns .count) (k .loop .j) (k .loop .next) (omega arith) (omega (arith, columns-4 s)) _ (c .before .before .cell-at .ensures) (not-true _ (c .if1 .taken)))
+    let columns = s .args .columns .now in
+    sym (k .loop .inv .3 ∙ row-stop (s .args .s .now) _ columns (k .loop .j) (k .loop .next) (omega arith) _ (c .before .before .cell-at .ensures) (not-true _ (c .if1 .taken)))
 
 mul-numbers : tie.Need-mul-numbers Inv-loop μ-loop
 mul-numbers c = search needs
@@ -67,16 +64,16 @@ loop-less c = search needs
 
 loop-again : tie.Need-loop-again Inv-loop μ-loop
 loop-again c =
-    let k = c .before .before .before .before in
+    let k = c .before .before .before .before .before in
     let s = k .before .before .before in
-    let columns = s .args .columns in
+    let columns = s .args .columns .now in
     let x = c .before .before .cell-at in
     let fill = filled-take 0 mostColumns (k .loop .numbers) (k .loop .j) (x .result .value) (k .loop .inv .2) (omega arith) in (
       search needs,
       rw (x .ensures) (cell-inside _ (s .args .s .now) (k .loop .next) _ (k .loop .inv .1)),
       filled 0 mostColumns (k .loop .numbers) (k .loop .j) (x .result .value) (k .loop .inv .2) (omega arith),
       k .loop .inv .3
-          ∙ row-more (s .args .s .now) _ (columns .most) (columns .count) (k .loop .j) (k .loop .next) (omega arith) (omega (arith, columns-4 s)) _ (x .ensures) (not-false _ (c .if1 .left))
+          ∙ row-more (s .args .s .now) _ columns (k .loop .j) (k .loop .next) (omega arith) _ (x .ensures) (not-false _ (c .if1 .left))
           ∙ rw fill,
     )
 
@@ -84,7 +81,7 @@ returns-2 : tie.Need-returns-2 Inv-loop μ-loop
 returns-2 c =
     let k = c .before in
     let args = k .before .before .before .args in
-    sym (k .loop .inv .3 ∙ row-end (args .s .now) _ (args .columns .most) (args .columns .count) (k .loop .j) (k .loop .next) (omega arith) ∙ rw (k .loop .inv .2))
+    sym (k .loop .inv .3 ∙ row-end (args .s .now) _ (args .columns .now) (k .loop .j) (k .loop .next) (omega arith) ∙ rw (k .loop .inv .2))
 
 pub row-at-spec : {M : Type 1} → statement M
 row-at-spec =
@@ -94,7 +91,7 @@ row-at-spec =
     μ-loop
     loop-holds
     mul-cell-at
-    array-read-cell-at
+    shared-slice-read-cell-at
     sub-cell-at
     sub-cell-at-2
     cell-at-requires

@@ -1,21 +1,24 @@
 -- The two answers agree, and each statement allows one result.
 use mathlib.Core.Path.{_≡_, refl}
 use mathlib.Core.Bool.{Bool, true, false, cond, not}
-use Prim.Native.Nat.{_≤_}
+use Prim.Native.Nat.{ℕ, _≤_}
 use native.Mathlib.Nat.{le-trans}
 use native.Mathlib.Omega.{arith}
-use borrow.Author.Tests.{eqb-true}
+use borrow.Author.Tests.{eqb-true, ne-eqb}
 use lib.ListN.{length}
 use Rattle.maths.proofs.Determined.{determined}
 use Rattle.maths.proofs.Tasks.{lowest-le}
 use Rattle.table.specs.declared.Table.{Table}
 use Rattle.table.specs.Limits.{mostTasks}
-use Rattle.table.specs.Refused.{refusal}
+use Rattle.table.specs.declared.Refusal.{Refusal}
+use Rattle.table.specs.Refused.{noRefusal, refusal}
+use Rattle.table.specs.Good.{Good}
 use Rattle.table.proofs.Good.{good-of}
 use Rattle.admission.specs.declared.FullAnswer.{FullAnswer}
 use Rattle.admission.specs.declared.QuickAnswer.{QuickAnswer}
 use Rattle.admission.specs.Test.{passes, admitted, firstFailing}
-use Rattle.admission.specs.Answers.{unrefused, fullAnswer, quickAnswer}
+use Rattle.admission.specs.Answers.{unrefused, margins, fullRefused, fullJudged, quickRefused, quickJudged, fullAnswer, quickAnswer}
+use Rattle.admission.proofs.Laws.{admitted-is}
 
 -- the full answer without its margins
 abbrev pub quickOf : FullAnswer → QuickAnswer
@@ -34,6 +37,33 @@ full-determined t = determined (fullAnswer t)
 
 pub quick-determined : (t : Table) (r s : QuickAnswer) → r ≡ quickAnswer t → s ≡ quickAnswer t → r ≡ s
 quick-determined t = determined (quickAnswer t)
+
+-- what is found of a table before its tasks are judged
+pub record Refused (t : Table) (r : Refusal) : Type 0 where
+  pub is : refusal t ≡ r
+  pub some : r .number ≡ 0 → ⊥
+
+pub record Unrefused (t : Table) : Type 0 where
+  pub is : refusal t ≡ noRefusal
+  pub good : Good t
+
+module _ {t : Table} {r : Refusal} (f : Refused t r) where
+  pub full-refused-is : fullRefused r ≡ fullAnswer t
+  unfolding fullAnswer
+  full-refused-is = rw (f .is) (simp (ne-eqb (r .number) 0 (f .some)))
+
+  pub quick-refused-is : quickRefused r ≡ quickAnswer t
+  unfolding quickAnswer
+  quick-refused-is = rw (f .is) (simp (ne-eqb (r .number) 0 (f .some)))
+
+module _ {t : Table} (u : Unrefused t) {first : ℕ} (e : first ≡ firstFailing t) where
+  pub full-is : fullJudged first (margins t) ≡ fullAnswer t
+  unfolding fullAnswer
+  full-is = rw (u .is, e) (simp (admitted-is t))
+
+  pub quick-is : quickJudged first ≡ quickAnswer t
+  unfolding quickAnswer
+  quick-is = rw (u .is, e) (simp (admitted-is t))
 
 -- the first task that does not pass is a task
 pub first-le : (t : Table) → length (t .rows) ≡ mostTasks → quickAnswer t .first ≤ mostTasks

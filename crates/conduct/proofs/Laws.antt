@@ -4,7 +4,6 @@ use mathlib.Core.Path.{_≡_, refl, sym, _∙_, subst}
 use mathlib.Core.Bool.{Bool, true, false, _&&_}
 use native.Mathlib.Omega.{arith}
 use lib.ListN.{length}
-use Rattle.maths.specs.Tasks.{Each}
 use Rattle.maths.proofs.Tasks.{each}
 use Rattle.maths.proofs.Tests.{both}
 use Rattle.table.specs.declared.Table.{Table}

@@ -1,4 +1,4 @@
-// Times the proved functions beside the plain C version, both called from here and in turn. Given any word, it runs a few rounds of each
+// Times the archive's calls beside the plain C version, both called from here and in turn. Given any word, it runs a few rounds of each
 // instead, between system calls that mark them, for a count of their instructions; given the number of a case too, those of that case only.
 #include "rounds.h"
 #include "texts.c"
@@ -70,8 +70,8 @@ static int timed(const input *x) {
     return 0;
 }
 
-// A call that fails: what is executed between two of them is counted.
-static void mark(void) { write(-1, "", 0); }
+// A system call that fails: what is executed between two of them is counted. Its own place is at most a few instructions of each count.
+__attribute__((noinline)) void mark(void) { write(-1, "", 0); }
 
 static int counted(const input *x) {
     u64 a = 0, b = 0;
@@ -85,10 +85,10 @@ static int counted(const input *x) {
     return differ(x, a, b);
 }
 
-static u64 proved_full(const input *x, u64 n) { return bench_answers(0, x->words, WORDS, x->p, x->q, n); }
-static u64 c_full(const input *x, u64 n) { return plain_full(x->words, WORDS, x->p, x->q, n); }
-static u64 proved_quick(const input *x, u64 n) { return bench_answers(1, x->words, WORDS, x->p, x->q, n); }
-static u64 c_quick(const input *x, u64 n) { return plain_quick(x->words, WORDS, x->p, x->q, n); }
+static u64 full_proved(const input *x, u64 n) { return proved_full(x->words, WORDS, x->p, x->q, n); }
+static u64 full_plain(const input *x, u64 n) { return plain_full(x->words, WORDS, x->p, x->q, n); }
+static u64 quick_proved(const input *x, u64 n) { return proved_quick(x->words, WORDS, x->p, x->q, n); }
+static u64 quick_plain(const input *x, u64 n) { return plain_quick(x->words, WORDS, x->p, x->q, n); }
 
 // Ticks in lots, each from a fresh machine.
 static u64 in_lots(u64 f(const u32 *, u64, const u32 *, u64), const input *x, u64 n) {
@@ -97,8 +97,8 @@ static u64 in_lots(u64 f(const u32 *, u64, const u32 *, u64), const input *x, u6
     return h + f(x->words, WORDS, x->reports, 2 * n);
 }
 
-static u64 proved_ticks(const input *x, u64 n) { return in_lots(lent_ticks, x, n); }
-static u64 c_ticks(const input *x, u64 n) { return in_lots(plain_ticks, x, n); }
+static u64 ticks_proved(const input *x, u64 n) { return in_lots(proved_ticks, x, n); }
+static u64 ticks_plain(const input *x, u64 n) { return in_lots(plain_ticks, x, n); }
 
 static input *add(const char *what, u32 tasks, const char *how, rounds *proved, rounds *plain) {
     input *x = &cases[case_count++];
@@ -133,7 +133,7 @@ static void admission_words(input *x, u32 n, int fails) {
 // The table has to do what its case says.
 static int admission_case(int is_quick, u32 n, int fails) {
     const char *what = is_quick ? "quick answer" : "full answer", *how = fails ? "first task fails" : "admitted";
-    input *x = add(what, n, how, is_quick ? proved_quick : proved_full, is_quick ? c_quick : c_full);
+    input *x = add(what, n, how, is_quick ? quick_proved : full_proved, is_quick ? quick_plain : full_plain);
     if (left_out(case_count)) return 0;
     admission_words(x, n, fails);
     table t = table_of(x->words, WORDS);
@@ -154,7 +154,7 @@ static int admission_cases(void) {
 
 // Every task is released each T ticks, task i first at tick first(i), and every job ends as late as it may.
 static int tick_case(const char *how, u32 n, u32 cores, u32 a, u32 period, u32 run, u32 apart, u32 wanted) {
-    input *x = add("tick", n, how, proved_ticks, c_ticks);
+    input *x = add("tick", n, how, ticks_proved, ticks_plain);
     u32 *w = x->words, refused = 0;
     x->lot = 64;
     if (left_out(case_count)) return 0;
@@ -199,41 +199,29 @@ static int tick_cases(void) {
 }
 
 // One reading, or one run of a ticks text, a round; nothing is in view of the compiler that would save it the next.
-static u64 proved_read_tasks(const input *x, u64 n) {
+typedef u64 reading(const u8 *platform, u64 p, const u8 *tasks, u64 k);
+
+static u64 readings(reading f, const input *x, u64 n) {
     u64 h = 0;
-    while (n--) h += bench_read_tasks(x->text, x->length);
+    while (n--) h += f((const u8 *)platform_text, sizeof platform_text - 1, x->text, x->length);
     return h;
 }
 
-static u64 c_read_tasks(const input *x, u64 n) {
+static u64 set_up_proved(const input *x, u64 n) { return readings(proved_set_up, x, n); }
+static u64 set_up_plain(const input *x, u64 n) { return readings(plain_set_up, x, n); }
+static u64 verdict_proved(const input *x, u64 n) { return readings(proved_verdict, x, n); }
+static u64 verdict_plain(const input *x, u64 n) { return readings(plain_verdict, x, n); }
+
+typedef u64 running(const u8 *platform, u64 p, const u8 *tasks, u64 k, const u8 *ticks, u64 n, u8 *out, u64 room);
+
+static u64 runs(running f, const input *x, u64 n, u8 *out) {
     u64 h = 0;
-    while (n--) h += plain_read_tasks(x->text, x->length);
+    while (n--) h += f((const u8 *)platform_text, sizeof platform_text - 1, full_tasks, full_length, x->text, x->length, out, LISTING);
     return h;
 }
 
-static u64 proved_read_ticks(const input *x, u64 n) {
-    u64 h = 0;
-    while (n--) h += bench_read_ticks(x->text, x->length);
-    return h;
-}
-
-static u64 c_read_ticks(const input *x, u64 n) {
-    u64 h = 0;
-    while (n--) h += plain_read_ticks(x->text, x->length);
-    return h;
-}
-
-static u64 proved_run(const input *x, u64 n) {
-    u64 h = 0;
-    while (n--) h += bench_run((const u8 *)platform_text, sizeof platform_text - 1, full_tasks, full_length, x->text, x->length, listing[0], LISTING);
-    return h;
-}
-
-static u64 c_run(const input *x, u64 n) {
-    u64 h = 0;
-    while (n--) h += plain_run((const u8 *)platform_text, sizeof platform_text - 1, full_tasks, full_length, x->text, x->length, listing[1], LISTING);
-    return h;
-}
+static u64 run_proved(const input *x, u64 n) { return runs(proved_run, x, n, listing[0]); }
+static u64 run_plain(const input *x, u64 n) { return runs(plain_run, x, n, listing[1]); }
 
 static input *text_case(const char *what, const char *how, rounds *proved, rounds *plain, const u8 *text, u64 length) {
     input *x = add(what, 32, how, proved, plain);
@@ -248,12 +236,13 @@ static int text_cases(void) {
     long_length = tasks_text(long_tasks, ROOM);
     ticks_length = ticks_text(long_ticks, full_tasks, full_length, ROOM);
     some_length = ticks_text(some_ticks, full_tasks, full_length, 5000);
-    text_case("tasks reader", "a full table", proved_read_tasks, c_read_tasks, full_tasks, full_length);
-    text_case("tasks reader", "as long as may be", proved_read_tasks, c_read_tasks, long_tasks, long_length);
-    text_case("ticks reader", "as long as may be", proved_read_ticks, c_read_ticks, long_ticks, ticks_length);
-    const input *x = text_case("whole `ticks`", "a text of 5,000 bytes", proved_run, c_run, some_ticks, some_length);
-    u64 length = proved_run(x, 1);
-    if (length != c_run(x, 1)) return printf("whole ticks: the lengths differ\n");
+    text_case("set-up from texts", "a full table", set_up_proved, set_up_plain, full_tasks, full_length);
+    text_case("set-up from texts", "as long as may be", set_up_proved, set_up_plain, long_tasks, long_length);
+    text_case("quick verdict", "a full table", verdict_proved, verdict_plain, full_tasks, full_length);
+    text_case("whole `ticks`", "as long as may be", run_proved, run_plain, long_ticks, ticks_length);
+    const input *x = text_case("whole `ticks`", "a text of 5,000 bytes", run_proved, run_plain, some_ticks, some_length);
+    u64 length = run_proved(x, 1);
+    if (length != run_plain(x, 1)) return printf("whole ticks: the lengths differ\n");
     for (u64 i = 0; i < length; i++)
         if (listing[0][i] != listing[1][i]) return printf("whole ticks: byte %lu differs\n", i);
     return 0;

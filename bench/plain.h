@@ -66,5 +66,7 @@ void machine_tick(machine *m, u32 released, u32 finished, answer *answer);
 refusal read_platform(const u8 *s, u64 length, table *t);
 refusal read_tasks(const u8 *s, u64 length, table *t);
 refusal read_ticks(const u8 *s, u64 length, u64 *count);
+refusal set_up_texts(machine *m, const u8 *platform, u64 p, const u8 *tasks, u64 k, u32 *text);
+u64 verdict(const u8 *platform, u64 p, const u8 *tasks, u64 k);
 
 #endif

@@ -79,6 +79,40 @@ refusal read_platform(const u8 *s, u64 length, table *t) {
     return (refusal){0, 0};
 }
 
+// The table of two texts, or the refusal of the first that is not of its form, and which that is.
+static refusal read_table(const u8 *platform, u64 p, const u8 *tasks, u64 k, table *t, u32 *text) {
+    table given = {0};
+    *text = 1;
+    refusal r = read_platform(platform, p, &given);
+    if (r.number) return r;
+    *text = 2;
+    r = read_tasks(tasks, k, t);
+    if (r.number) return r;
+    *text = 0;
+    t->cores = given.cores;
+    t->partitions = given.partitions;
+    return r;
+}
+
+// Set-up of a machine from two texts; a refusal leaves it as it was.
+refusal set_up_texts(machine *m, const u8 *platform, u64 p, const u8 *tasks, u64 k, u32 *text) {
+    table t;
+    refusal r = read_table(platform, p, tasks, k, &t, text);
+    if (!r.number) r = table_refused(&t);
+    if (!r.number) machine_fresh(m, &t);
+    return r;
+}
+
+u64 verdict(const u8 *platform, u64 p, const u8 *tasks, u64 k) {
+    table t;
+    u32 text;
+    quick a;
+    refusal r = read_table(platform, p, tasks, k, &t, &text);
+    if (r.number) return r.number;
+    quick_answer(&t, &a);
+    return a.refused.number ? a.refused.number : a.first ? 100 + a.first : 0;
+}
+
 static u64 put(u8 *out, u64 at, const char *word) {
     while (*word) out[at++] = (u8)*word++;
     return at;

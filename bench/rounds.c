@@ -1,5 +1,6 @@
-// Rounds of the plain version: the same inputs, changed in the same way, and the same fold as in crates/bench.
-// One unit with what it times, as the archive is one, so that both are compiled with all of their code in view.
+// Rounds of the archive's calls and of the plain version: the same inputs, changed in the same way, and the same fold.
+// The plain version is one unit with its rounds, so that it is compiled with all of its code in view.
+#include "gorsetumble.h"
 #include "rounds.h"
 #include "plain_admission.c"
 #include "plain_machine.c"
@@ -19,6 +20,19 @@ table table_of(const u32 *words, u64 count) {
 
 static u64 without_sign(i64 x) { return x < 0 ? ~x : x; }
 
+static const gorsetumble_task *lent(const table *t) { return (const gorsetumble_task *)t->rows; }
+
+u64 proved_full(const u32 *words, u64 count, u32 p, u32 q, u64 n) {
+    table t = table_of(words, count);
+    u64 h = 0;
+    for (u64 i = 0; i < n; i++) {
+        gorsetumble_full_answer a = gorsetumble_full((gorsetumble_platform){t.cores, i % 2 == 0 ? p : q}, lent(&t), t.n);
+        h = fold(fold(h, a.refused.number), a.first);
+        h = fold(fold(h, without_sign(a.margins[0])), without_sign(a.margins[31]));
+    }
+    return h;
+}
+
 u64 plain_full(const u32 *words, u64 count, u32 p, u32 q, u64 n) {
     table t = table_of(words, count);
     u64 h = 0;
@@ -28,6 +42,16 @@ u64 plain_full(const u32 *words, u64 count, u32 p, u32 q, u64 n) {
         full_answer(&t, &a);
         h = fold(fold(h, a.refused.number), a.first);
         h = fold(fold(h, without_sign(a.margins[0])), without_sign(a.margins[31]));
+    }
+    return h;
+}
+
+u64 proved_quick(const u32 *words, u64 count, u32 p, u32 q, u64 n) {
+    table t = table_of(words, count);
+    u64 h = 0;
+    for (u64 i = 0; i < n; i++) {
+        gorsetumble_quick_answer a = gorsetumble_quick((gorsetumble_platform){t.cores, i % 2 == 0 ? p : q}, lent(&t), t.n);
+        h = fold(fold(h, a.refused.number), a.first);
     }
     return h;
 }
@@ -57,26 +81,37 @@ u64 plain_ticks(const u32 *words, u64 count, const u32 *reports, u64 report_word
     return h;
 }
 
-u64 lent_ticks(const u32 *words, u64 count, const u32 *reports, u64 report_words) {
+u64 proved_ticks(const u32 *words, u64 count, const u32 *reports, u64 report_words) {
     table t = table_of(words, count);
-    machine m;
+    gorsetumble_machine m;
     u64 h = 0;
-    gorsetumble_set_up(&m, (platform){t.cores, t.partitions}, t.rows, t.n);
+    gorsetumble_set_up(&m, (gorsetumble_platform){t.cores, t.partitions}, lent(&t), t.n);
     for (u64 i = 0; i < report_words / 2; i++) {
-        answer a = gorsetumble_tick(&m, reports[2 * i], reports[2 * i + 1]);
+        gorsetumble_answer a = gorsetumble_tick(&m, reports[2 * i], reports[2 * i + 1]);
         h = fold(fold(fold(h, a.refused.number), a.late), a.started);
     }
     return h;
 }
 
-u64 plain_read_tasks(const u8 *text, u64 length) {
-    table t;
-    refusal r = read_tasks(text, length, &t);
-    return fold(fold(fold(t.n, r.row), t.rows[0].d), t.rows[31].a);
+u64 proved_set_up(const u8 *platform, u64 p, const u8 *tasks, u64 k) {
+    gorsetumble_machine m;
+    gorsetumble_text_refusal r = gorsetumble_set_up_texts(&m, platform, p, tasks, k);
+    u64 h = fold(fold(r.refused.number, r.refused.row), r.text);
+    return r.refused.number ? h : fold(fold(fold(h, m.table.n), m.table.rows[31].a), m.jobs[31].age);
 }
 
-u64 plain_read_ticks(const u8 *text, u64 length) {
-    u64 count;
-    refusal r = read_ticks(text, length, &count);
-    return fold(count, r.row);
+u64 plain_set_up(const u8 *platform, u64 p, const u8 *tasks, u64 k) {
+    machine m;
+    u32 text;
+    refusal r = set_up_texts(&m, platform, p, tasks, k, &text);
+    u64 h = fold(fold(r.number, r.row), text);
+    return r.number ? h : fold(fold(fold(h, m.table.n), m.table.rows[31].a), m.jobs[31].age);
+}
+
+u64 proved_verdict(const u8 *platform, u64 p, const u8 *tasks, u64 k) { return gorsetumble_quick_verdict(platform, p, tasks, k); }
+
+u64 plain_verdict(const u8 *platform, u64 p, const u8 *tasks, u64 k) { return verdict(platform, p, tasks, k); }
+
+u64 proved_run(const u8 *platform, u64 p, const u8 *tasks, u64 k, const u8 *ticks, u64 n, u8 *out, u64 room) {
+    return gorsetumble_ticks(platform, p, tasks, k, ticks, n, out, room).length;
 }

@@ -1,4 +1,4 @@
-// Cases of the readers and of the whole function behind the program `ticks`: texts of a full table, and of as many rows as a program takes.
+// Cases of set-up and verdict from texts, and of what the program `ticks` writes: texts of a full table, and of as many rows as a program takes.
 #include "rounds.h"
 
 enum { ROOM = LONGEST_TEXT, LISTING = 1300000 };

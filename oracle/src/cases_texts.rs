@@ -1,12 +1,13 @@
-//! Cases of texts: readers (P, K, R), writers (V, and W for two texts at once), the quick verdict (C) and the programs' whole work (M, N).
+//! Cases of texts: what is read, by set-up from two texts (U) and the program "ticks" (N); writers (V, and W for two texts at once); the quick verdict
+//! (C); and the programs' whole work (M, N).
 
 use crate::cases_admission::{refused_values, table_values};
 use crate::counts::Counts;
-use crate::draw::texts::{pair, platform_rows, spoiled, task_rows, three, Three};
+use crate::draw::texts::{pair, platform_rows, spoiled, task_rows, three, whole, Three};
 use crate::draw::{states, tables};
 use crate::files::Pair;
-use crate::machine::digest;
-use crate::programs::{admit, ticks, verdict};
+use crate::machine::Machine;
+use crate::programs::{admit, set_up, ticks, verdict};
 use crate::records::{Value, BEFORE, MOST, PAST};
 use crate::rng::Rng;
 use crate::table::{Refused, ROWS};
@@ -19,6 +20,7 @@ struct Run {
     rng: Rng,
     counts: Counts,
     pair: Pair,
+    kept: Machine,
 }
 
 fn numbers(of: impl IntoIterator<Item = u64>) -> Vec<Value> {
@@ -58,29 +60,51 @@ fn room(rng: &mut Rng, text: &[u8]) -> usize {
 }
 
 impl Run {
-    /// A reader's answer: the two numbers of a platform, or the count of rows and a digest of them. The digest of a tasks text is of
-    /// the 32 rows that a table holds, those past n being 0.
-    fn reader(&mut self, kind: u8, form: &Form, text: &[u8]) -> io::Result<()> {
-        let rows = read(form, text);
-        let refused = rows.as_ref().err().copied();
-        let name = char::from(kind);
-        match refused {
-            None => self.counts.add(format!("{name} good")),
-            Some(r) if r.at == text.len() as u64 => self.counts.add(format!("{name} cut short")),
-            Some(_) => self.counts.add(format!("{name} a byte that cannot stand there")),
-        }
-        let rows = rows.unwrap_or_default();
+    /// Counts how a text of the form reads: well, or up to its end, or up to a byte that cannot stand there.
+    fn count_read(&mut self, form: &Form, text: &[u8]) {
+        let how = match read(form, text) {
+            Ok(_) => "good",
+            Err(r) if r.at == text.len() as u64 => "cut short",
+            Err(_) => "a byte that cannot stand there",
+        };
+        self.counts.add(format!("{} {how}", form.header));
+    }
+
+    /// Set-up of the machine kept from two texts, which is kept where they are refused.
+    fn set_up(&mut self, platform: &[u8], tasks: &[u8]) -> io::Result<()> {
+        let (refused, text) = match set_up(platform, tasks) {
+            Ok(machine) => {
+                self.kept = machine;
+                (None, 0)
+            }
+            Err((r, text)) => (Some(r), text),
+        };
+        self.counts.add(refused.map_or("U set up".to_string(), |r| format!("U refused {}, text {text}", r.number)));
         let mut answer = refused_values(refused).to_vec();
-        if kind == b'P' {
-            let row = rows.first().cloned().unwrap_or(vec![0, 0]);
-            answer.extend(numbers(row.iter().map(|&x| u64::from(x))));
-        } else {
-            let flat = rows.concat().into_iter();
-            let digest = if kind == b'K' { digest(flat.chain(std::iter::repeat(0)).take(4 * ROWS)) } else { digest(flat) };
-            let digest = if refused.is_some() { 0 } else { digest };
-            answer.extend(numbers([rows.len() as u64, digest.into()]));
-        }
-        self.pair.write(kind, &[bytes(text)], &answer)
+        answer.extend(numbers([text.into(), self.kept.digest().into()]));
+        self.pair.write(b'U', &[bytes(platform), bytes(tasks)], &answer)
+    }
+
+    /// A platform text and a tasks text, each spoiled and beside a good other: set up, they show every number; and a spoiled ticks text, run.
+    fn readers(&mut self) -> io::Result<()> {
+        let [platform, tasks, reports] = whole(&mut self.rng);
+        let spoil = |run: &mut Run, form: &Form, text: Vec<u8>| {
+            let text = spoiled(&mut run.rng, form, text);
+            run.count_read(form, &text);
+            text
+        };
+        let text = spoil(self, &PLATFORM, platform.clone());
+        self.set_up(&text, b"D,T,C,A\r\n1,1,1,0\r\n")?;
+        let text = spoil(self, &TASKS, tasks.clone());
+        let widest: &[u8] = b"cores,partitions\r\n16,64\r\n";
+        let beside = self.rng.pick(&[&platform[..], widest]);
+        self.set_up(beside, &text)?;
+        let text = spoil(self, &TICKS, reports);
+        let says = ticks(Some(&platform), Some(&tasks), &text);
+        let case =
+            [numbers([1]), vec![bytes(&platform)], numbers([1]), vec![bytes(&tasks), bytes(&text)], numbers([says.len() as u64])]
+                .concat();
+        self.pair.write(b'N', &case, &written(&says, says.len(), PAST).1)
     }
 
     /// What came of a program's text. One that says a refusal can be too long for its buffer just as a listing can.
@@ -107,7 +131,7 @@ impl Run {
         self.pair.write(kind, &case, &answer)
     }
 
-    /// The programs' work and the quick verdict, on the same texts.
+    /// The programs' work, the quick verdict and set-up, on the same texts.
     fn programs(&mut self, given: &Three) -> io::Result<()> {
         let (platform, tasks) = (given.platform.as_deref(), given.tasks.as_deref());
         let file = |text: Option<&[u8]>| [Value::Number(text.is_some().into()), bytes(text.unwrap_or_default())];
@@ -115,6 +139,7 @@ impl Run {
         self.program(b'M', case.clone(), &admit(platform, tasks))?;
         case.push(bytes(&given.ticks));
         self.program(b'N', case, &ticks(platform, tasks, &given.ticks))?;
+        self.set_up(platform.unwrap_or_default(), tasks.unwrap_or_default())?;
         let answer = self.verdict(platform.unwrap_or_default(), tasks.unwrap_or_default())?;
         self.counts.add(if answer > 100 { "C not admitted".to_string() } else { format!("C {answer}") });
         Ok(())
@@ -149,6 +174,7 @@ impl Run {
             let refused = put(&texts, &mut buffers).err();
             self.counts.add(refused.map_or("W written".to_string(), |r| format!("W refused {}", r.number)));
             answer.extend(refused_values(refused));
+            answer.extend(numbers(texts.each_ref().map(|text| if refused.is_none() { text.len() as u64 } else { 0 })));
             answer.extend(buffers.map(|b| bytes(&b)));
         } else {
             for (text, room) in texts.iter().zip(rooms) {
@@ -175,23 +201,23 @@ impl Run {
 }
 
 fn begin(seed: u64, pair: Pair) -> Run {
-    Run { rng: Rng::new(seed), counts: Counts::default(), pair }
+    Run { rng: Rng::new(seed), counts: Counts::default(), pair, kept: Machine::zero() }
 }
 
-/// The three readers.
+/// The three readers, through what stands on them.
 pub fn write_readers(count_of: u64, seed: u64, pair: Pair) -> io::Result<bool> {
     let mut run = begin(seed, pair);
     while run.pair.written < count_of {
-        let given = three(&mut run.rng);
-        for (kind, form, text) in
-            [(b'P', &PLATFORM, given.platform), (b'K', &TASKS, given.tasks), (b'R', &TICKS, Some(given.ticks))]
-        {
-            let text = spoiled(&mut run.rng, form, text.unwrap_or_default());
-            run.reader(kind, form, &text)?;
-        }
+        run.readers()?;
     }
     let outcomes = ["good", "cut short", "a byte that cannot stand there"];
-    run.end(&["P", "K", "R"].iter().flat_map(|kind| outcomes.map(|what| format!("{kind} {what}"))).collect::<Vec<_>>())
+    let mut wanted = [&PLATFORM, &TASKS, &TICKS]
+        .iter()
+        .flat_map(|form| outcomes.map(|what| format!("{} {what}", form.header)))
+        .collect::<Vec<_>>();
+    wanted.extend(["U set up", "U refused 15, text 1", "U refused 15, text 2"].map(String::from));
+    wanted.extend([1, 2, 3, 4, 5, 6, 7, 8].map(|number| format!("U refused {number}, text 0")));
+    run.end(&wanted)
 }
 
 /// The writers, one text at a time.
@@ -215,7 +241,7 @@ pub fn write_verdicts(count_of: u64, seed: u64, files: Pair) -> io::Result<bool>
     run.end(&answers.map(|answer| format!("C {answer:03}")).collect::<Vec<_>>())
 }
 
-/// Whole texts in: the programs' work, the quick verdict, and two texts out.
+/// Whole texts in: the programs' work, the quick verdict and set-up, and two texts out.
 pub fn write(count_of: u64, seed: u64, pair: Pair) -> io::Result<bool> {
     let mut run = begin(seed, pair);
     while run.pair.written < count_of {
@@ -223,7 +249,18 @@ pub fn write(count_of: u64, seed: u64, pair: Pair) -> io::Result<bool> {
         run.programs(&given)?;
         run.writers(b'W')?;
     }
-    let mut wanted = ["C 0", "C 15", "C not admitted", "W written", "W refused 16"].map(String::from).to_vec();
+    let mut wanted = [
+        "C 0",
+        "C 15",
+        "C not admitted",
+        "U set up",
+        "U refused 15, text 1",
+        "U refused 15, text 2",
+        "W written",
+        "W refused 16",
+    ]
+    .map(String::from)
+    .to_vec();
     for kind in ["M", "N"] {
         let outcomes = ["listed", "refused 16, a listing", "refused 16, a refusal", "without a byte to spare"];
         wanted.extend(outcomes.map(|what| format!("{kind} {what}")));

@@ -284,7 +284,7 @@ impl Machine {
 }
 
 /// One number for many: h = (1,000,003 h + x) mod 4,294,967,291 for each in turn, from 0.
-pub fn digest(numbers: impl IntoIterator<Item = u32>) -> u32 {
+fn digest(numbers: impl IntoIterator<Item = u32>) -> u32 {
     numbers.into_iter().fold(0, |h: u64, x| (1_000_003 * h + u64::from(x)) % 4_294_967_291) as u32
 }
 

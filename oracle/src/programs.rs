@@ -74,6 +74,13 @@ pub fn ticks(platform: Option<&[u8]>, tasks: Option<&[u8]>, reports: &[u8]) -> V
     lines("tick,refused,finished,late,started", rows)
 }
 
+/// Set-up from two texts: the fresh machine, or the refusal and the text that it is in, 1 the platform, 2 the tasks, 0 neither.
+pub fn set_up(platform: &[u8], tasks: &[u8]) -> Result<Machine, (Refused, u32)> {
+    let platform = read(&PLATFORM, platform).map_err(|r| (r, 1))?;
+    let tasks = read(&TASKS, tasks).map_err(|r| (r, 2))?;
+    Machine::fresh(&table(&platform, &tasks)).map_err(|r| (r, 0))
+}
+
 /// What the board's start-up code gets for the bytes of two texts.
 pub fn verdict(platform: &[u8], tasks: &[u8]) -> u32 {
     let texts = read(&PLATFORM, platform).and_then(|p| Ok((p, read(&TASKS, tasks)?)));
@@ -151,6 +158,18 @@ mod tests {
         assert_eq!(listing, b"refused,row\r\n2,0\r\n");
         let listing = ticks(Some(&platform(2, 4)), Some(&good), b"released,finished\r\n");
         assert_eq!(listing, b"tick,refused,finished,late,started\r\n");
+    }
+
+    #[test]
+    fn set_up_says_which_text() {
+        let good = tasks(&P1);
+        let refused = |p: &[u8], t: &[u8]| set_up(p, t).err().map(|(r, text)| (r.number, r.at, text));
+        assert_eq!(refused(b"cores", b""), Some((15, 5, 1)));
+        assert_eq!(refused(&platform(0, 0), b"D,x"), Some((15, 2, 2)));
+        assert_eq!(refused(&platform(0, 0), &good), Some((2, 0, 0)));
+        assert_eq!(refused(&platform(2, 1), &good), Some((8, 2, 0)));
+        assert_eq!(refused(&platform(2, 4), &good), None);
+        assert_eq!(set_up(&platform(2, 4), &good).unwrap().table.m, 2);
     }
 
     #[test]

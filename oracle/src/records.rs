@@ -4,10 +4,11 @@
 //! The fields of a kind are stated once, below; what is written is checked against them and what is read is read by them.
 //!
 //! ```text
-//! A  both admission answers           P  a platform text is read       C  the quick verdict
-//! S  set-up of the machine kept       K  a tasks text is read          M  the program "admit"
-//! T  a tick of the machine kept       R  a ticks text is read          N  the program "ticks"
-//! X  a tick of a machine given        V  platform and tasks texts are written, each by itself
+//! A  both admission answers           C  the quick verdict on two texts
+//! S  set-up of the machine kept       U  set-up of the machine kept from two texts
+//! T  a tick of the machine kept       M  what the program "admit" writes of its texts
+//! X  a tick of a machine given        N  what the program "ticks" writes of its texts
+//!                                     V  platform and tasks texts are written, each by itself
 //!                                     W  both are written, or neither
 //! ```
 //!
@@ -91,8 +92,7 @@ pub fn case_fields(kind: u8) -> Option<Vec<Field>> {
             all.extend(job_fields());
             all.extend(report_fields());
         }
-        b'P' | b'K' | b'R' => all.push(field("text", Text)),
-        b'C' => all.extend([field("platform", Text), field("tasks", Text)]),
+        b'C' | b'U' => all.extend([field("platform", Text), field("tasks", Text)]),
         b'M' | b'N' => {
             for name in ["platform", "tasks"] {
                 all.extend([field(format!("{name} there"), U32), field(name, Text)]);
@@ -129,13 +129,9 @@ pub fn answer_fields(kind: u8) -> Option<Vec<Field>> {
             all.extend([field("number", U32), field("task", U64), field("finished", U32)]);
             all.extend([field("late", U32), field("started", U32), field("digest", U32)]);
         }
-        b'P' => {
-            all.extend([field("number", U32), field("offset", U64)]);
-            all.extend([field("M", U32), field("P", U32)]);
-        }
-        b'K' | b'R' => {
-            all.extend([field("number", U32), field("offset", U64)]);
-            all.extend([field("rows", U64), field("digest", U32)]);
+        b'U' => {
+            all.extend([field("number", U32), field("row or offset", U64)]);
+            all.extend([field("text", U32), field("digest", U32)]);
         }
         b'C' => all.push(field("answer", U32)),
         b'M' | b'N' => all.extend(written_fields("")),
@@ -145,6 +141,7 @@ pub fn answer_fields(kind: u8) -> Option<Vec<Field>> {
         }
         b'W' => {
             all.extend([field("number", U32), field("row", U64)]);
+            all.extend([field("platform length", U64), field("tasks length", U64)]);
             all.extend([field("platform buffer", Text), field("tasks buffer", Text)]);
         }
         _ => return None,

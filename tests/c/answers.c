@@ -1,10 +1,10 @@
 /* Reads cases from standard input, one after the other, and writes what the exported functions answer to them: the C side of the comparison with
- * the second program. oracle/src/records.rs states the form of both; the kinds are A, S, T, X and C.
+ * the second program. oracle/src/records.rs states the form of both.
  *
- * What is lent ends where memory cannot be read, and must be after a call as it was before. The machine has guard bytes before and behind it, and
- * a refused call must leave it to the bit. Where one of these fails, the program says so and ends: the answers that are then missing count as failed. */
+ * What is lent ends where memory cannot be read, and what is only read must be after a call as it was before. The machine has guard bytes before and
+ * behind it, and a refused call must leave it to the bit; a buffer has some before it, and so has what is behind its room. Where one of these
+ * fails, the program says so and ends: the answers that are then missing count as failed. */
 #include "gorsetumble.h"
-#include "gorsetumble_texts.h"
 
 #include "fence.h"
 
@@ -17,13 +17,13 @@ typedef struct {
 
 _Static_assert(sizeof(Given) == 528, "a table in a case is 528 bytes");
 
-enum { JOB_BYTES = 20, GUARD = 256, FILLING = 0xa5 };
+enum { JOB_BYTES = 20, GUARD = 256, FILLING = 0xa5, PAST = 16, LONGEST = 60000 };
 
 /* a count above this is lent as this many rows: both are above 32 */
 #define MOST_ROWS ((size_t)4096)
 #define MOST_BYTES ((size_t)1 << 20)
 
-static fenced rows_room, platform_room, tasks_room;
+static fenced rows_room;
 static struct {
     uint8_t before[GUARD];
     gorsetumble_machine machine;
@@ -192,24 +192,163 @@ static void given(void) {
     tick();
 }
 
+/* texts that are lent: the platform, the tasks, the ticks */
+enum { TEXTS = 3 };
+static struct {
+    fenced room;
+    uint8_t copy[MOST_BYTES];
+    uint8_t *bytes;
+    size_t length;
+} texts[TEXTS];
+
 /* an empty text is lent as null every other time */
-static uint8_t *lend_text(fenced room, uint32_t *length) {
-    get(length, sizeof *length);
-    uint8_t *text = last(room, *length);
-    get(text, *length);
-    return *length == 0 && records % 2 == 0 ? NULL : text;
+static void lend(size_t which, size_t length) {
+    texts[which].length = length;
+    texts[which].bytes = length == 0 && records % 2 == 0 ? NULL : last(texts[which].room, length);
+    memcpy(texts[which].copy, last(texts[which].room, length), length);
 }
 
-static uint8_t copies[2][MOST_BYTES];
+static void lend_text(size_t which) {
+    uint32_t length;
+    get(&length, sizeof length);
+    get(last(texts[which].room, length), length);
+    lend(which, length);
+}
+
+/* A file that is missing is lent as a text one byte longer than a program takes: both are refused with 15 and 0. */
+static void lend_file(size_t which) {
+    uint32_t there;
+    get(&there, sizeof there);
+    lend_text(which);
+    if (!there) {
+        lend(which, LONGEST + 1);
+    }
+}
+
+static void texts_stay(size_t count) {
+    for (size_t i = 0; i < count; i++) {
+        hold_to(memcmp(texts[i].copy, last(texts[i].room, texts[i].length), texts[i].length) == 0, "a text was written to");
+    }
+}
+
+#define LENT(which) texts[which].bytes, texts[which].length
 
 static void verdict(void) {
-    uint32_t lengths[2];
-    uint8_t *platform = lend_text(platform_room, &lengths[0]), *tasks = lend_text(tasks_room, &lengths[1]);
-    memcpy(copies[0], last(platform_room, lengths[0]), lengths[0]);
-    memcpy(copies[1], last(tasks_room, lengths[1]), lengths[1]);
-    put32(gorsetumble_quick_verdict(platform, lengths[0], tasks, lengths[1]));
-    hold_to(memcmp(copies[0], last(platform_room, lengths[0]), lengths[0]) == 0, "the platform text was written to");
-    hold_to(memcmp(copies[1], last(tasks_room, lengths[1]), lengths[1]) == 0, "the tasks text was written to");
+    lend_text(0);
+    lend_text(1);
+    put32(gorsetumble_quick_verdict(LENT(0), LENT(1)));
+    texts_stay(2);
+}
+
+static void set_up_texts(void) {
+    gorsetumble_machine before;
+    lend_text(0);
+    lend_text(1);
+    memcpy(&before, &kept.machine, sizeof before);
+    gorsetumble_text_refusal r = gorsetumble_set_up_texts(&kept.machine, LENT(0), LENT(1));
+    texts_stay(2);
+    guards_stay();
+    if (r.refused.number != 0) {
+        stays(&before);
+    }
+    put_refusal(r.refused);
+    put32(r.text);
+    put32(digest(&kept.machine));
+}
+
+/* buffers to be written to, with what must stay before them and is shown behind them */
+enum { BUFFERS = 2 };
+static struct {
+    fenced room;
+    uint8_t *bytes;
+    uint32_t length;
+} buffers[BUFFERS];
+
+static void buffer(size_t which, size_t past) {
+    get(&buffers[which].length, sizeof buffers[which].length);
+    buffers[which].bytes = last(buffers[which].room, buffers[which].length + past);
+    memset(buffers[which].bytes - GUARD, FILLING, GUARD + buffers[which].length + past);
+}
+
+#define BUFFER(which) buffers[which].bytes, buffers[which].length
+
+static void put_buffer(size_t which, size_t past) {
+    hold_to(memcmp(buffers[which].bytes - GUARD, guard, GUARD) == 0, "bytes before a buffer were written to");
+    put32(buffers[which].length + past);
+    put(buffers[which].bytes, buffers[which].length + past);
+}
+
+static void put_written(gorsetumble_written w, size_t which, size_t past) {
+    put_refusal(w.refused);
+    put64(w.length);
+    put_buffer(which, past);
+}
+
+static void admit(void) {
+    lend_file(0);
+    lend_file(1);
+    buffer(0, PAST);
+    gorsetumble_written w = gorsetumble_admit(LENT(0), LENT(1), BUFFER(0));
+    texts_stay(2);
+    put_written(w, 0, PAST);
+}
+
+static void ticks(void) {
+    lend_file(0);
+    lend_file(1);
+    lend_text(2);
+    buffer(0, PAST);
+    gorsetumble_written w = gorsetumble_ticks(LENT(0), LENT(1), LENT(2), BUFFER(0));
+    texts_stay(3);
+    put_written(w, 0, PAST);
+}
+
+static gorsetumble_table get_table(void) {
+    Given given;
+    gorsetumble_table table;
+    get(&given, sizeof given);
+    memset(&table, FILLING, sizeof table);
+    table.platform = given.platform;
+    table.n = given.n;
+    memcpy(table.rows, given.rows, sizeof given.rows);
+    return table;
+}
+
+static void write_one_by_one(void) {
+    gorsetumble_table table = get_table();
+    buffer(0, 0);
+    buffer(1, 0);
+    put_written(gorsetumble_write_platform(table.platform, BUFFER(0)), 0, 0);
+    put_written(gorsetumble_write_tasks(table, BUFFER(1)), 1, 0);
+}
+
+static void write_both(void) {
+    gorsetumble_table table = get_table();
+    buffer(0, 0);
+    buffer(1, 0);
+    gorsetumble_texts_written w = gorsetumble_write_texts(table, BUFFER(0), BUFFER(1));
+    put_refusal(w.refused);
+    put64(w.platform);
+    put64(w.tasks);
+    put_buffer(0, 0);
+    put_buffer(1, 0);
+}
+
+static bool answered(uint8_t kind) {
+    switch (kind) {
+    case 'A': admission(); break;
+    case 'S': set_up(); break;
+    case 'T': tick(); break;
+    case 'X': given(); break;
+    case 'C': verdict(); break;
+    case 'U': set_up_texts(); break;
+    case 'M': admit(); break;
+    case 'N': ticks(); break;
+    case 'V': write_one_by_one(); break;
+    case 'W': write_both(); break;
+    default: return false;
+    }
+    return true;
 }
 
 int main(void) {
@@ -218,17 +357,14 @@ int main(void) {
     memset(kept.before, FILLING, sizeof kept.before);
     memset(kept.behind, FILLING, sizeof kept.behind);
     rows_room = fenced_room(MOST_ROWS * sizeof(gorsetumble_task));
-    platform_room = fenced_room(MOST_BYTES);
-    tasks_room = fenced_room(MOST_BYTES);
+    for (size_t i = 0; i < TEXTS; i++) {
+        texts[i].room = fenced_room(MOST_BYTES);
+    }
+    for (size_t i = 0; i < BUFFERS; i++) {
+        buffers[i].room = fenced_room(MOST_BYTES);
+    }
     for (records = 1; fread(&kind, 1, 1, stdin) == 1; records++) {
-        switch (kind) {
-        case 'A': admission(); break;
-        case 'S': set_up(); break;
-        case 'T': tick(); break;
-        case 'X': given(); break;
-        case 'C': verdict(); break;
-        default: hold_to(false, "no kind of case that is known here");
-        }
+        hold_to(answered(kind), "no kind of case that is known here");
     }
     return 0;
 }

@@ -1,6 +1,6 @@
-/* The quick verdict, called from C: the cases of document 01, each number that it can answer, texts at the edges of every size up to ten million
- * bytes, and no text at all. Each text ends where memory cannot be read, and is compared after the call with what it was before. */
-#include "gorsetumble_texts.h"
+/* The quick verdict on two texts, and set-up from them: the cases of document 01, each number that the verdict can answer, texts at the edges of every
+ * size up to ten million bytes, and no text at all. Each text ends where memory cannot be read, and is compared after the calls with what it was. */
+#include "gorsetumble.h"
 
 #include "expect.h"
 #include "fence.h"
@@ -20,12 +20,62 @@ typedef struct {
 
 static fenced platform_room, tasks_room;
 
-static void judges(const char *what, Text platform, Text tasks, uint32_t number) {
+static gorsetumble_machine machine;
+
+/* Set-up answers the number of a refusal where the verdict is one, and else is not refused; refused, it changes nothing. */
+static gorsetumble_text_refusal sets_up(const char *what, const uint8_t *p, size_t p_length, const uint8_t *t, size_t t_length, uint32_t verdict) {
+    static gorsetumble_machine before;
+    memset(&machine, 0xa5, sizeof machine);
+    memcpy(&before, &machine, sizeof before);
+    gorsetumble_text_refusal r = gorsetumble_set_up_texts(&machine, p, p_length, t, t_length);
+    expect(r.refused.number == (verdict > GORSETUMBLE_FIRST_TASK_FAILS ? 0 : verdict), what);
+    expect((r.text != GORSETUMBLE_IN_NO_TEXT) == (r.refused.number == GORSETUMBLE_REFUSED_TEXT), what);
+    if (r.refused.number == 0) {
+        expect(gorsetumble_tick(&machine, 0, 0).refused.number == 0, what);
+    } else {
+        expect(memcmp(&before, &machine, sizeof before) == 0, what);
+    }
+    return r;
+}
+
+static gorsetumble_text_refusal judges(const char *what, Text platform, Text tasks, uint32_t number) {
     uint8_t *p = last(platform_room, platform.length), *t = last(tasks_room, tasks.length);
     memcpy(p, platform.bytes, platform.length);
     memcpy(t, tasks.bytes, tasks.length);
     expect(gorsetumble_quick_verdict(p, platform.length, t, tasks.length) == number, what);
+    gorsetumble_text_refusal r = sets_up(what, p, platform.length, t, tasks.length, number);
     expect(memcmp(p, platform.bytes, platform.length) == 0 && memcmp(t, tasks.bytes, tasks.length) == 0, what);
+    return r;
+}
+
+/* a refusal's row, or the offset and which text it is in */
+static void refuses(const char *what, Text platform, Text tasks, uint32_t number, size_t row, uint32_t text) {
+    gorsetumble_text_refusal r = judges(what, platform, tasks, number);
+    expect(r.refused.row == row && r.text == text, what);
+}
+
+static void places(void) {
+    const Text two = PLATFORM("2,4"), good = TASKS("40,50,2,1\r\n"), none = TEXT("");
+    refuses("platform empty", none, good, 15, 0, GORSETUMBLE_IN_PLATFORM);
+    refuses("both empty", none, none, 15, 0, GORSETUMBLE_IN_PLATFORM);
+    refuses("tasks empty", two, none, 15, 0, GORSETUMBLE_IN_TASKS);
+    refuses("a platform cut short", TEXT("cores,partitions\r\n2"), none, 15, 19, GORSETUMBLE_IN_PLATFORM);
+    refuses("a second platform row", PLATFORM("2,4\r\n2,4"), good, 15, 23, GORSETUMBLE_IN_PLATFORM);
+    refuses("a bare LF", two, TEXT("D,T,C,A\n40,50,2,1\r\n"), 15, 7, GORSETUMBLE_IN_TASKS);
+    refuses("a leading zero in row 2", two, TASKS("40,50,2,1\r\n40,050,2,1\r\n"), 15, 24, GORSETUMBLE_IN_TASKS);
+    refuses("no core", PLATFORM("0,4"), good, 2, 0, GORSETUMBLE_IN_NO_TEXT);
+    refuses("row 2, deadline", two, TASKS("40,50,2,1\r\n51,50,2,1\r\n"), 7, 2, GORSETUMBLE_IN_NO_TEXT);
+}
+
+/* a machine of the table that the texts give, which runs P8 */
+static void runs(void) {
+    expect(judges("P8", PLATFORM("3,4"), TASKS("6,6,2,1\r\n8,8,3,2\r\n9,9,2,2\r\n12,12,2,1\r\n"), 101).refused.number == 0, "P8 is set up");
+    expect(machine.table.n == 4 && machine.table.platform.cores == 3 && machine.table.platform.partitions == 4, "P8's table");
+    expect(machine.table.rows[3].d == 12 && machine.table.rows[3].t == 12 && machine.table.rows[3].c == 2 && machine.table.rows[3].a == 1, "P8's last row");
+    expect(machine.table.rows[4].t == 0 && machine.jobs[4].age == 0, "nothing past n");
+    expect(gorsetumble_tick(&machine, 15, 0).started == 3, "P8, tick 0");
+    expect(gorsetumble_tick(&machine, 0, 0).started == 0, "P8, tick 1");
+    expect(gorsetumble_tick(&machine, 0, 1).started == 4 && machine.jobs[2].held == 9, "P8, tick 2");
 }
 
 static void cases(void) {
@@ -148,16 +198,19 @@ static void nothing(void) {
     expect(gorsetumble_quick_verdict(NULL, 0, t, good.length) == 15, "null for the platform");
     expect(gorsetumble_quick_verdict(p, two.length, NULL, 0) == 15, "null for the tasks");
     expect(gorsetumble_quick_verdict(p, two.length, t, good.length) == 0, "neither null");
+    sets_up("two nulls", NULL, 0, NULL, 0, 15);
+    sets_up("null for the tasks", p, two.length, NULL, 0, 15);
 }
 
-int main(void) {
+void texts(void) {
     platform_room = fenced_room(LARGEST);
     tasks_room = fenced_room(LARGEST);
     cases();
     refused();
     forms();
+    places();
+    runs();
     sizes();
     firsts();
     nothing();
-    return counted();
 }

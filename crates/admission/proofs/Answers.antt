@@ -4,31 +4,28 @@ use mathlib.Core.Bool.{Bool, true, false, cond, not}
 use Prim.Native.Nat.{ℕ, _≤_}
 use native.Mathlib.Nat.{le-trans}
 use native.Mathlib.Omega.{arith}
-use borrow.Author.Tests.{eqb-true, ne-eqb}
+use borrow.Author.Tests.{eq-eqb, ne-eqb, eqb-true}
 use lib.ListN.{length}
 use Rattle.maths.proofs.Determined.{determined}
 use Rattle.maths.proofs.Tasks.{lowest-le}
 use Rattle.table.specs.declared.Table.{Table}
 use Rattle.table.specs.Limits.{mostTasks}
 use Rattle.table.specs.declared.Refusal.{Refusal}
-use Rattle.table.specs.Refused.{noRefusal, refusal}
+use Rattle.table.specs.Refused.{noRefusal, refusal, unrefused}
 use Rattle.table.specs.Good.{Good}
 use Rattle.table.proofs.Good.{good-of}
 use Rattle.admission.specs.declared.FullAnswer.{FullAnswer}
 use Rattle.admission.specs.declared.QuickAnswer.{QuickAnswer}
 use Rattle.admission.specs.Test.{passes, admitted, firstFailing}
-use Rattle.admission.specs.Answers.{unrefused, margins, fullRefused, fullJudged, quickRefused, quickJudged, fullAnswer, quickAnswer}
+use Rattle.admission.specs.Answers.{margins, fullRefused, quickRefused, fullAnswer, quickAnswer, withoutMargins}
+use Rattle.admission.specs.Code.Judged.{fullJudged, quickJudged}
 use Rattle.admission.proofs.Laws.{admitted-is}
 
--- the full answer without its margins
-abbrev pub quickOf : FullAnswer → QuickAnswer
-quickOf f = record { refused = f .refused; admitted = f .admitted; first = f .first }
-
-either : (b : Bool) (f g : FullAnswer) → quickOf (cond b f g) ≡ cond b (quickOf f) (quickOf g)
+either : (b : Bool) (f g : FullAnswer) → withoutMargins (cond b f g) ≡ cond b (withoutMargins f) (withoutMargins g)
 either true f g = refl
 either false f g = refl
 
-pub answers-agree : (t : Table) → quickOf (fullAnswer t) ≡ quickAnswer t
+pub answers-agree : (t : Table) → withoutMargins (fullAnswer t) ≡ quickAnswer t
 unfolding fullAnswer quickAnswer
 answers-agree t = either (unrefused t) _ _
 
@@ -65,12 +62,28 @@ module _ {t : Table} (u : Unrefused t) {first : ℕ} (e : first ≡ firstFailing
   unfolding quickAnswer
   quick-is = rw (u .is, e) (simp (admitted-is t))
 
--- the first task that does not pass is a task
-pub first-le : (t : Table) → length (t .rows) ≡ mostTasks → quickAnswer t .first ≤ mostTasks
-unfolding quickAnswer
-first-le t len = by (unrefused t) refl
-  where
-    by : (b : Bool) → unrefused t ≡ b
-        → cond {A = QuickAnswer} b (record { refused = refusal t; admitted = admitted t; first = firstFailing t }) (record { refused = refusal t; admitted = false; first = 0 }) .first ≤ mostTasks
-    by true e = le-trans (lowest-le (λ k. not (passes t k)) (t .n)) (good-of t len (eqb-true (refusal t .number) 0 e) .few)
-    by false e = omega arith
+-- the quick answer by whether the table is refused
+module _ (t : Table) where
+  abbrev judged : QuickAnswer
+  judged = record { refused = refusal t; admitted = admitted t; first = firstFailing t }
+
+  pub quick-refusal : quickAnswer t .refused ≡ refusal t
+  unfolding quickAnswer
+  quick-refusal = by (unrefused t)
+    where
+      by : (b : Bool) → cond b judged (quickRefused (refusal t)) .refused ≡ refusal t
+      by true = refl
+      by false = refl
+
+  pub quick-unrefused : refusal t .number ≡ 0 → quickAnswer t ≡ judged
+  unfolding quickAnswer
+  quick-unrefused none = rw (eq-eqb (refusal t .number) 0 none)
+
+  -- the first task that does not pass is a task
+  pub first-le : length (t .rows) ≡ mostTasks → quickAnswer t .first ≤ mostTasks
+  unfolding quickAnswer
+  first-le len = by (unrefused t) refl
+    where
+      by : (b : Bool) → unrefused t ≡ b → cond b judged (quickRefused (refusal t)) .first ≤ mostTasks
+      by true e = le-trans (lowest-le (λ k. not (passes t k)) (t .n)) (good-of t len (eqb-true (refusal t .number) 0 e) .sizes .few)
+      by false e = omega arith

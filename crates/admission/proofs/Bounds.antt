@@ -50,8 +50,8 @@ module _ {t : Table} (g : Good t) where
   unfolding Amax
   Amax-suc k = refl
 
-  pub task-good : (i : ℕ) → i < t .n → GoodRow mostPartitions (τ t (suc i))
-  task-good i l =
+  pub row-good : (i : ℕ) → i < t .n → GoodRow mostPartitions (τ t (suc i))
+  row-good i l =
       let r = g .row i l in
       record {
         period = r .period;
@@ -59,7 +59,7 @@ module _ {t : Table} (g : Good t) where
         runs = r .runs;
         slack = r .slack;
         deadline = r .deadline;
-        room = le-trans (r .room) (g .partitions);
+        room = le-trans (r .room) (g .sizes .partitions);
       }
 
   module _ (k : ℕ) (lk : k < t .n) where
@@ -67,8 +67,8 @@ module _ {t : Table} (g : Good t) where
     S-le = let r = g .row k lk in omega arith
 
     pub B-le : B t (suc k) ≤ 65
-    B-le = omega (arith, g .partitions)
+    B-le = omega (arith, g .sizes .partitions)
 
     pub limit-small : limit t (suc k) < 2 ^ 62
     unfolding limit
-    limit-small = lt-of-le-of-lt (limit-le (g .cores) B-le S-le) (lit< tt)
+    limit-small = lt-of-le-of-lt (limit-le (g .sizes .cores) B-le S-le) (lit< tt)

@@ -11,12 +11,12 @@ use Rattle.table.specs.Refused.{noRefusal, sizesRefusal, rowRefusal, rowsFrom, 
 use Rattle.table.specs.Tasks.{noTask, M, P, τ, D, C, A}
 use Rattle.table.specs.Good.{Good, GoodRow}
 use Rattle.table.proofs.Good.{good-sizes, good-of}
-use Rattle.table.proofs.Laws.{row-good, row-bad, rows-end}
+use Rattle.table.proofs.Laws as checks
 use Rattle.lives.specs.Report.{equation3, weightOf, limitOf}
 use Rattle.admission.specs.declared.Measures.{Measures}
 use Rattle.admission.specs.Test.{row, S, Amax, B, interference, weight, limit}
 use Rattle.admission.proofs.Answers.{Refused, Unrefused}
-use Rattle.admission.proofs.Bounds.{Amax-suc, Amax-le, task-good, term-le, B-le, S-le, mostTerm}
+use Rattle.admission.proofs.Bounds.{Amax-suc, Amax-le, row-good, term-le, B-le, S-le, mostTerm}
 use Rattle.admission.proofs.Laws.{loadTo, load-none, load-more}
 
 -- the sizes and rows 1 to i earn no refusal
@@ -40,14 +40,14 @@ module _ {t : Table} where
 
     pub row-refused : {number : ℕ} → i < t .n → number ≡ rowRefusal (P t) (getD (t .rows) i noTask) → (number ≡ 0 → ⊥)
         → Refused t (record { number = number; row = i + 1 })
-    row-refused l e h = record { is = c .rest ∙ row-bad (P t) (t .n) (t .rows) i l there _ e h; some = h }
+    row-refused l e h = record { is = c .rest ∙ checks.row-bad (P t) (t .n) (t .rows) i l there _ e h; some = h }
 
     pub checked-more : i < t .n → 0 ≡ rowRefusal (P t) (getD (t .rows) i noTask) → Checked t (i + 1)
-    checked-more l e = record { whole = c .whole; few = c .few; rest = c .rest ∙ row-good (P t) (t .n) (t .rows) i l there e }
+    checked-more l e = record { whole = c .whole; few = c .few; rest = c .rest ∙ checks.row-good (P t) (t .n) (t .rows) i l there e }
 
     pub checked-all : i ≡ t .n → Unrefused t
     checked-all e =
-        let is : refusal t ≡ noRefusal = c .rest ∙ rw e (rows-end (P t) _ (t .n) (t .rows) there) in
+        let is : refusal t ≡ noRefusal = c .rest ∙ rw e (checks.rows-end (P t) _ (t .n) (t .rows) there) in
         record { is = is; good = good-of t (c .whole) (ap (λ (r : Refusal). r .number) is) }
 
 pub record Measured (t : Table) (k : ℕ) (x : Measures) : Type 0 where
@@ -64,7 +64,7 @@ pub record Loading (t : Table) (k : ℕ) (x : Measures) (load i : ℕ) : Type 0 
 
 module _ {t : Table} (g : Good t) {k : ℕ} (l : k < t .n) where
   pub measured-needs : {a : ℕ} → a ≡ Amax t k → (a ≤ P t) × (P t ≤ mostPartitions) × GoodRow (P t) (τ t (suc k))
-  measured-needs e = (rw e (Amax-le g k (omega arith)), g .partitions, g .row k l)
+  measured-needs e = (rw e (Amax-le g k (omega arith)), g .sizes .partitions, g .row k l)
 
   module _ {x : Measures} where
     pub measured : {a : ℕ} → a ≡ Amax t k → x .most .0 ≡ max a (A (τ t (suc k))) → x .b .0 ≡ P t - max a (A (τ t (suc k))) + 1
@@ -73,7 +73,7 @@ module _ {t : Table} (g : Good t) {k : ℕ} (l : k < t .n) where
 
     module _ (m : Measured t k x) where
       pub limited-needs : (M t ≤ mostCores) × (x .b .0 ≤ 65) × (x .s ≤ longestPeriod)
-      limited-needs = (g .cores, omega (arith, m .b, B-le g k l), omega (arith, m .s, S-le g k l))
+      limited-needs = (g .sizes .cores, omega (arith, m .b, B-le g k l), omega (arith, m .s, S-le g k l))
 
       pub limit-is : limitOf (M t) (x .b .0) (x .s) ≡ limit t (suc k)
       unfolding limit
@@ -86,7 +86,7 @@ module _ {t : Table} {k : ℕ} {x : Measures} {load i : ℕ} (c : Loading t k x 
   pub term-needs : (M t ≤ mostCores) × (x .b .0 ≤ 65) × (x .s ≤ longestPeriod) × GoodRow mostPartitions (τ t (suc i))
   term-needs =
       let n = limited-needs (c .good) (c .task) (c .measures) in
-      (n .0, n .1, n .2, task-good (c .good) i h)
+      (n .0, n .1, n .2, row-good (c .good) i h)
 
   pub loading-more : {term : ℕ} → term ≡ weightOf (M t) (x .b .0) (A (τ t (suc i))) * equation3 (x .s) (row (τ t (suc i)))
       → Loading t k x (load + term) (i + 1)

@@ -1,22 +1,18 @@
 -- The two answers of document 01: full, with the margin of each task 1 to n and 0 beyond, and quick, with the verdict and the first task
 -- that does not pass. A refused table carries number and row, and all else is 0.
 use Prim.Native.Nat.{ℕ}
-use mathlib.Core.Bool.{Bool, false, cond}
+use mathlib.Core.Bool.{false, cond}
 use mathlib.Core.List.{List}
-use lib.Dec.{eqb, leb}
+use lib.Dec.{leb}
 use lib.IntN.{ℤ, pos}
 use Rattle.maths.specs.Tasks.{tabulate}
 use Rattle.table.specs.declared.Table.{Table}
 use Rattle.table.specs.declared.Refusal.{Refusal}
 use Rattle.table.specs.Limits.{mostTasks}
-use Rattle.table.specs.Refused.{noRefusal, refusal}
+use Rattle.table.specs.Refused.{refusal, unrefused}
 use Rattle.admission.specs.declared.FullAnswer.{FullAnswer}
 use Rattle.admission.specs.declared.QuickAnswer.{QuickAnswer}
 use Rattle.admission.specs.Test.{margin, admitted, firstFailing}
-
--- 0 for an answer's number: the table is not refused
-abbrev pub unrefused : Table → Bool
-unrefused t = eqb (refusal t .number) 0
 
 abbrev pub margins : Table → List ℤ
 margins t = tabulate mostTasks (λ k. cond (leb k (t .n)) (margin t k) (pos 0))
@@ -27,13 +23,6 @@ fullRefused refused = record { refused = refused; admitted = false; first = 0; m
 
 abbrev pub quickRefused : Refusal → QuickAnswer
 quickRefused refused = record { refused = refused; admitted = false; first = 0 }
-
--- of one that is not, by the first task that does not pass
-abbrev pub fullJudged : ℕ → List ℤ → FullAnswer
-fullJudged first margins = record { refused = noRefusal; admitted = eqb first 0; first = first; margins = margins }
-
-abbrev pub quickJudged : ℕ → QuickAnswer
-quickJudged first = record { refused = noRefusal; admitted = eqb first 0; first = first }
 
 unfoldable pub fullAnswer : Table → FullAnswer
 fullAnswer t =
@@ -46,3 +35,7 @@ quickAnswer t =
     cond (unrefused t)
     (record { refused = refusal t; admitted = admitted t; first = firstFailing t })
     (quickRefused (refusal t))
+
+-- the full answer without its margins
+abbrev pub withoutMargins : FullAnswer → QuickAnswer
+withoutMargins a = record { refused = a .refused; admitted = a .admitted; first = a .first }

@@ -8,7 +8,8 @@ ghost use Rattle.table.specs.Limits.{mostTasks, mostCores, mostPartitions, long
 ghost use Rattle.table.specs.Tasks.{D, C};
 ghost use Rattle.lives.specs.Report.{equation3, weightOf, limitOf};
 ghost use Rattle.admission.specs.Test.{row, less, above0};
-ghost use Rattle.admission.specs.Answers.{fullRefused, fullJudged, quickRefused, quickJudged, fullAnswer, quickAnswer};
+ghost use Rattle.admission.specs.Answers.{fullRefused, quickRefused, fullAnswer, quickAnswer};
+ghost use Rattle.admission.specs.Code.Judged.{fullJudged, quickJudged};
 use table::Cores;
 use table::Partitions;
 use table::Refusal;
@@ -225,9 +226,10 @@ pub fn quick_answer(t: Table) -> QuickAnswer
         }
         row += 1;
     }
+    let mut answer = quick_judged(0);
     let mut most = Partitions(0);
     let mut k: usize = 0;
-    while k < n {
+    'tasks: while k < n {
         let x = measured(p, most, t.rows[k]);
         most = x.most;
         let l = limited(m, x.b, x.s);
@@ -236,11 +238,12 @@ pub fn quick_answer(t: Table) -> QuickAnswer
         while i < n {
             load += term(m, x.b, x.s, t.rows[i]);
             if l <= load {
-                return quick_judged(k + 1);
+                answer = quick_judged(k + 1);
+                break 'tasks;
             }
             i += 1;
         }
         k += 1;
     }
-    quick_judged(0)
+    answer
 }

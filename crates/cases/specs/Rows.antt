@@ -1,136 +1,182 @@
--- Cases P1 to P10 of document 01: what is asked, as data, and what the listings of the programs then hold, row by row.
--- `cases` is proved to give `expected` in proofs/Hold.antt.
-use Prim.Native.Nat.{ℕ, zero, suc, _+_, _*_, _/_}
-use mathlib.Core.Bool.{Bool, true, false, cond}
+-- Cases P1 to P10 of document 01 and its cases at the limits: what is given, as the lines of the texts, what is asked, and the answer that
+-- document 01 gives. `cases` is proved to give `expected` in proofs/Hold.antt, from the bytes of the texts on.
+use Prim.Native.Nat.{ℕ, _*_, _/_}
+use Prim.Native.String.{String}
+use mathlib.Core.Bool.{true, cond}
 use mathlib.Core.List.{List, [], _∷_, _++_}
-use lib.Dec.{eqb}
 use lib.IntN.{ℤ, pos, negsuc}
-use lib.ListN.{length, replicate}
-use Rattle.maths.specs.Tasks.{entry, tabulate}
-use Rattle.table.specs.declared.Task.{Task}
-use Rattle.table.specs.declared.Table.{Table}
+use lib.ListN.{length, replicate, take}
+use Rattle.maths.specs.Tasks.{entry}
+use Rattle.forms.specs.Bytes.{bytes}
+use Rattle.forms.specs.Forms.{crlf, platformForm, tasksForm}
+use Rattle.forms.specs.Reader.{read}
 use Rattle.table.specs.declared.Refusal.{Refusal}
-use Rattle.table.specs.Limits.{mostTasks}
-use Rattle.table.specs.Tasks.{noTask}
-use Rattle.admission.specs.Test.{loadOf, margin, passes}
+use Rattle.table.specs.declared.Table.{Table}
+use Rattle.table.specs.Tasks.{emptyTable}
+use Rattle.table.specs.Refused.{refusal}
+use Rattle.admission.specs.Test.{B, loadOf}
+use Rattle.admission.specs.declared.FullAnswer.{FullAnswer}
 use Rattle.admission.specs.Answers.{fullAnswer}
 use Rattle.machine.specs.declared.Machine.{Machine}
 use Rattle.machine.specs.declared.Ticked.{Ticked}
 use Rattle.machine.specs.Jobs.{held}
 use Rattle.machine.specs.Fresh.{fresh}
-use Rattle.machine.specs.Tick.{tick}
-use Rattle.promise.specs.Sequences.{Report}
+use Rattle.readers.specs.declared.Tick.{Tick}
+use Rattle.readers.specs.Inputs.{noPlatform}
+use Rattle.texts.specs.Given.{given}
+use Rattle.texts.specs.Admit.{admitText}
+use Rattle.texts.specs.Verdict.{verdict}
+use Rattle.runs.specs.Ticks.{tickWith, ticksText}
 
-abbrev pub row : ℕ → ℕ → ℕ → ℕ → Task
-row d t c a = record { d = d; t = t; c = c; a = record { 0 = a } }
+-- the bytes of a text, each of whose lines ends in CR LF
+abbrev pub csv : List String → List ℕ
+csv [] = []
+csv (line ∷ more) = bytes line ++ (crlf ++ csv more)
 
-abbrev padded : ℕ → List Task → List Task
-padded zero τs = []
-padded (suc n) [] = noTask ∷ padded n []
-padded (suc n) (τ ∷ τs) = τ ∷ padded n τs
+-- the lines of platform.csv and of tasks.csv
+pub record Files : Type 0 where
+  pub platform : List String
+  pub tasks : List String
 
--- M, P and the rows
-abbrev pub table : ℕ → ℕ → List Task → Table
-table m p τs =
-    record {
-      platform = record { cores = record { 0 = m }; partitions = record { 0 = p } };
-      n = length τs;
-      rows = padded mostTasks τs;
-    }
-
-abbrev pub report : ℕ → ℕ → Report
-report released finished = record { released = released; finished = finished }
+-- the two sets that a tick brings
+abbrev pub brings : ℕ → ℕ → Tick
+brings released finished = record { released = released; finished = finished }
 
 pub data Asked : Type 0 where
-  -- what "admit" writes of a table
-  admit : Table → Asked
+  -- what "admit" writes
+  admit : Files → Asked
+  -- what "ticks" writes, with these lines on standard input
+  ticks : Files → List String → Asked
+  -- the number that the board gets
+  board : Files → Asked
+  -- verdict (1 for admitted), first task that does not pass, and the margin of each task
+  answer : Files → Asked
+  -- B of task k
+  blocks : Files → ℕ → Asked
   -- load, and load over M × B, of M, B and the tasks' partitions and interference
   load2 : (m b : ℕ) → (a x : List ℕ) → Asked
-  -- what "ticks" writes of a table and reports
-  ticks : Table → List Report → Asked
-  -- the partitions that task k holds after the reports
-  holds : Table → List Report → ℕ → Asked
+  -- of each tick on a fresh machine the refusal, number and task, and the sets finished, late and started
+  ticked : Files → List Tick → Asked
+  -- the partitions that task k holds after the ticks
+  holds : Files → List Tick → ℕ → Asked
+  -- number and row of the refusal of the two texts or of their table; for 15 the offset
+  refusalOf : Files → Asked
 
--- task,margin,pass
-abbrev pub marginRow : Table → ℕ → List ℤ
-marginRow t k = pos k ∷ margin t k ∷ cond (passes t k) (pos 1) (pos 0) ∷ []
+pub data Answered : Type 0 where
+  written : List ℕ → Answered
+  numbers : List (List ℤ) → Answered
 
--- tick,refused,finished,late,started
-abbrev pub tickRow : ℕ → Ticked → List ℤ
-tickRow at r =
-    pos at ∷ pos (r .answer .refused .number) ∷ pos (r .answer .finished) ∷ pos (r .answer .late) ∷ pos (r .answer .started) ∷ []
+-- the table of two good texts
+abbrev pub tableIn : Files → Table
+tableIn f = given (λ r. emptyTable noPlatform) (λ t. t) (read platformForm (csv (f .platform))) (read tasksForm (csv (f .tasks)))
 
--- ticks taken before the next row
-abbrev pub taken : ℕ → Ticked → ℕ
-taken at r = cond (eqb (r .answer .refused .number) 0) (suc at) at
+abbrev pub refusalIn : Files → Refusal
+refusalIn f = given (λ r. r) refusal (read platformForm (csv (f .platform))) (read tasksForm (csv (f .tasks)))
 
-unfoldable pub listing : ℕ → Machine → List Report → List (List ℤ)
-listing at m [] = []
-listing at m (x ∷ xs) =
-    let r : Ticked = tick m (x .released) (x .finished) in
-    tickRow at r ∷ listing (taken at r) (r .machine) xs
+abbrev pub answerRow : ℕ → FullAnswer → List ℤ
+answerRow n a = cond (a .admitted) (pos 1) (pos 0) ∷ pos (a .first) ∷ take n (a .margins)
 
-unfoldable pub after : Machine → List Report → Machine
+abbrev pub tickedRow : Ticked → List ℤ
+tickedRow r =
+    pos (r .answer .refused .number) ∷ pos (r .answer .refused .row) ∷ pos (r .answer .finished) ∷ pos (r .answer .late) ∷ pos (r .answer .started) ∷ []
+
+unfoldable pub tickedRows : Machine → List Tick → List (List ℤ)
+tickedRows m [] = []
+tickedRows m (x ∷ xs) = tickedRow (tickWith m x) ∷ tickedRows (tickWith m x .machine) xs
+
+unfoldable pub after : Machine → List Tick → Machine
 after m [] = m
-after m (x ∷ xs) = after (tick m (x .released) (x .finished) .machine) xs
+after m (x ∷ xs) = after (tickWith m x .machine) xs
 
-abbrev pub answered : Asked → List (List ℤ)
-answered (admit t) = tabulate (t .n) (marginRow t)
+abbrev pub answered : Asked → Answered
+answered (admit f) = written (admitText true (csv (f .platform)) true (csv (f .tasks)))
+answered (ticks f xs) = written (ticksText true (csv (f .platform)) true (csv (f .tasks)) true (csv xs))
+answered (board f) = numbers ((pos (verdict (csv (f .platform)) (csv (f .tasks))) ∷ []) ∷ [])
+answered (answer f) = numbers (answerRow (tableIn f .n) (fullAnswer (tableIn f)) ∷ [])
+answered (blocks f k) = numbers ((pos (B (tableIn f) k) ∷ []) ∷ [])
 answered (load2 m b a x) =
     let load : ℕ = loadOf (length a) m b (λ i. entry a i 0) (λ i. entry x i 0) in
-    (pos load ∷ pos (load / (m * b)) ∷ []) ∷ []
-answered (ticks t xs) = listing 0 (fresh t) xs
-answered (holds t xs k) = (pos (held (after (fresh t) xs) k) ∷ []) ∷ []
+    numbers ((pos load ∷ pos (load / (m * b)) ∷ []) ∷ [])
+answered (ticked f xs) = numbers (tickedRows (fresh (tableIn f)) xs)
+answered (holds f xs k) = numbers ((pos (held (after (fresh (tableIn f)) xs) k) ∷ []) ∷ [])
+answered (refusalOf f) = numbers ((pos (refusalIn f .number) ∷ pos (refusalIn f .row) ∷ []) ∷ [])
 
--- a case: its number in document 01, what is asked, and the answer that document 01 gives
+-- a case: its number in document 01 (0 for its last line, which has none), what is asked, and the answer that document 01 gives
 pub record Case : Type 0 where
   pub number : ℕ
   pub asked : Asked
-  pub expected : List (List ℤ)
+  pub expected : Answered
 
-abbrev case : ℕ → Asked → List (List ℤ) → Case
-case number asked expected = record { number = number; asked = asked; expected = expected }
+abbrev writes : ℕ → Asked → List String → Case
+writes number asked lines = record { number = number; asked = asked; expected = written (csv lines) }
+
+abbrev gives : ℕ → Asked → List (List ℤ) → Case
+gives number asked rows = record { number = number; asked = asked; expected = numbers rows }
+
+-- M and P in one row, and the rows of the tasks
+abbrev files : String → List String → Files
+files platform rows = record { platform = "cores,partitions" ∷ platform ∷ []; tasks = "D,T,C,A" ∷ rows }
 
 -- M = 1, P = 1 and one task
-abbrev one : ℕ → ℕ → ℕ → ℕ → Table
-one d t c a = table 1 1 (row d t c a ∷ [])
+abbrev one : String → Files
+one row = files "1,1" (row ∷ [])
 
-abbrev margin1 : ℤ → ℕ → List (List ℤ)
-margin1 margin pass = (pos 1 ∷ margin ∷ pos pass ∷ []) ∷ []
+abbrev judged1 : ℕ → ℕ → ℤ → List (List ℤ)
+judged1 verdict first margin = (pos verdict ∷ pos first ∷ margin ∷ []) ∷ []
 
-abbrev ticked : ℕ → ℕ → ℕ → ℕ → ℕ → List ℤ
-ticked at refused finished late started = pos at ∷ pos refused ∷ pos finished ∷ pos late ∷ pos started ∷ []
+abbrev number1 : ℕ → List (List ℤ)
+number1 n = (pos n ∷ []) ∷ []
 
-abbrev p8 : Table
-p8 = table 3 4 (row 6 6 2 1 ∷ row 8 8 3 2 ∷ row 9 9 2 2 ∷ row 12 12 2 1 ∷ [])
+abbrev refusal2 : ℕ → ℕ → List (List ℤ)
+refusal2 n row = (pos n ∷ pos row ∷ []) ∷ []
+
+abbrev row5 : ℕ → ℕ → ℕ → ℕ → ℕ → List ℤ
+row5 refused task finished late started = pos refused ∷ pos task ∷ pos finished ∷ pos late ∷ pos started ∷ []
+
+abbrev p1 : Files
+p1 = files "2,4" ("40,50,2,1" ∷ "60,60,3,2" ∷ "80,100,4,2" ∷ [])
+
+abbrev p8 : Files
+p8 = files "3,4" ("6,6,2,1" ∷ "8,8,3,2" ∷ "9,9,2,2" ∷ "12,12,2,1" ∷ [])
 
 unfoldable pub cases : List Case
 cases =
-    case 1
-    (admit (table 2 4 (row 40 50 2 1 ∷ row 60 60 3 2 ∷ row 80 100 4 2 ∷ [])))
-    ((pos 1 ∷ pos 232 ∷ pos 1 ∷ []) ∷ (pos 2 ∷ pos 268 ∷ pos 1 ∷ []) ∷ (pos 3 ∷ pos 370 ∷ pos 1 ∷ []) ∷ [])
-    ∷ case 2 (admit (one 6 6 2 1)) (margin1 (pos 0) 0)
-    ∷ case 3 (admit (one 7 7 2 1)) (margin1 (pos 1) 1)
-    ∷ case 4 (admit (one 5 5 2 1)) (margin1 (negsuc 0) 0)
-    ∷ case 5 (admit (one 2 2 2 1)) (margin1 (negsuc 3) 0)
-    ∷ case 6 (admit (one 6 6 2 0)) (margin1 (pos 0) 0)
-    ∷ case 7 (load2 2 4 (1 ∷ 3 ∷ 1 ∷ []) (4 ∷ 4 ∷ 6 ∷ [])) ((pos 64 ∷ pos 8 ∷ []) ∷ [])
-    ∷ case 8
-    (ticks p8 (report 15 0 ∷ report 0 0 ∷ report 0 1 ∷ report 0 2 ∷ report 0 4 ∷ report 1 8 ∷ report 0 8 ∷ report 1 0 ∷ []))
-    (ticked 0 0 0 0 3
-    ∷ ticked 1 0 0 0 0
-    ∷ ticked 2 0 1 0 4
-    ∷ ticked 3 0 2 0 8
-    ∷ ticked 4 0 4 0 0
-    ∷ ticked 5 12 0 0 0
-    ∷ ticked 5 0 8 0 0
-    ∷ ticked 6 0 0 0 1
+    writes 1 (admit p1) ("task,margin,pass" ∷ "1,232,1" ∷ "2,268,1" ∷ "3,370,1" ∷ [])
+    ∷ gives 1 (board p1) (number1 0)
+    ∷ gives 2 (answer (one "6,6,2,1")) (judged1 0 1 (pos 0))
+    ∷ gives 2 (board (one "6,6,2,1")) (number1 101)
+    ∷ gives 3 (answer (one "7,7,2,1")) (judged1 1 0 (pos 1))
+    ∷ gives 4 (answer (one "5,5,2,1")) (judged1 0 1 (negsuc 0))
+    ∷ gives 5 (answer (one "2,2,2,1")) (judged1 0 1 (negsuc 3))
+    ∷ gives 6 (blocks (one "6,6,2,0") 1) (number1 2)
+    ∷ gives 6 (answer (one "6,6,2,0")) (judged1 0 1 (pos 0))
+    ∷ gives 7 (load2 2 4 (1 ∷ 3 ∷ 1 ∷ []) (4 ∷ 4 ∷ 6 ∷ [])) ((pos 64 ∷ pos 8 ∷ []) ∷ [])
+    ∷ writes 8
+    (ticks p8 ("released,finished" ∷ "15,0" ∷ "0,0" ∷ "0,1" ∷ "0,2" ∷ "0,4" ∷ "1,8" ∷ "0,8" ∷ "1,0" ∷ []))
+    ("tick,refused,finished,late,started"
+    ∷ "0,0,0,0,3"
+    ∷ "1,0,0,0,0"
+    ∷ "2,0,1,0,4"
+    ∷ "3,0,2,0,8"
+    ∷ "4,0,4,0,0"
+    ∷ "5,12,0,0,0"
+    ∷ "5,0,8,0,0"
+    ∷ "6,0,0,0,1"
     ∷ [])
-    ∷ case 8 (holds p8 (report 15 0 ∷ report 0 0 ∷ report 0 1 ∷ []) 3) ((pos 9 ∷ []) ∷ [])
-    ∷ case 9
-    (ticks (table 1 1 (row 2 4 2 1 ∷ row 3 4 2 1 ∷ [])) (report 3 0 ∷ report 0 0 ∷ report 0 1 ∷ report 0 0 ∷ []))
-    (ticked 0 0 0 0 1 ∷ ticked 1 0 0 0 0 ∷ ticked 2 0 1 0 2 ∷ ticked 3 0 0 2 0 ∷ [])
-    ∷ case 10
-    (ticks (table 1 1 (row 3 3 3 1 ∷ row 1 1 1 1 ∷ [])) (report 3 0 ∷ report 2 0 ∷ []))
-    (ticked 0 0 0 0 1 ∷ ticked 1 13 0 0 0 ∷ [])
+    ∷ gives 8 (holds p8 (brings 15 0 ∷ brings 0 0 ∷ brings 0 1 ∷ []) 3) (number1 9)
+    ∷ gives 9
+    (ticked (files "1,1" ("2,4,2,1" ∷ "3,4,2,1" ∷ [])) (brings 3 0 ∷ brings 0 0 ∷ brings 0 1 ∷ brings 0 0 ∷ []))
+    (row5 0 0 0 0 1 ∷ row5 0 0 0 0 0 ∷ row5 0 0 1 0 2 ∷ row5 0 0 0 2 0 ∷ [])
+    ∷ gives 10
+    (ticked (files "1,1" ("3,3,3,1" ∷ "1,1,1,1" ∷ [])) (brings 3 0 ∷ brings 2 0 ∷ []))
+    (row5 0 0 0 0 1 ∷ row5 13 2 0 0 0 ∷ [])
+    ∷ gives 0 (refusalOf (files "1,1" (replicate 32 "1,1,1,1"))) (refusal2 0 0)
+    ∷ gives 0 (refusalOf (files "1,1" (replicate 33 "1,1,1,1"))) (refusal2 1 0)
+    ∷ gives 0 (board (files "1,1" (replicate 33 "1,1,1,1"))) (number1 1)
+    ∷ gives 0 (refusalOf (files "1,64" ("1,1,1,1" ∷ []))) (refusal2 0 0)
+    ∷ gives 0 (refusalOf (files "1,65" ("1,1,1,1" ∷ []))) (refusal2 3 0)
+    ∷ gives 0 (refusalOf (one "1,65535,1,1")) (refusal2 0 0)
+    ∷ gives 0 (refusalOf (one "1,65536,1,1")) (refusal2 4 1)
+    ∷ gives 0 (refusalOf (record { platform = "cores,partitions" ∷ "1,1" ∷ []; tasks = [] })) (refusal2 15 0)
+    ∷ gives 0 (refusalOf (files "1,1" [])) (refusal2 1 0)
     ∷ []

@@ -21,7 +21,7 @@ use Rattle.machine.specs.Steps.{passed}
 use Rattle.machine.specs.Tick.{tickRules, tickRefusal, accepted}
 use Rattle.machine.proofs.StateParts.{GoodState}
 use Rattle.machine.proofs.StateTest.{state-test}
-use Rattle.conduct.proofs.Accepted.{none-of, passed-over, none-given}
+use Rattle.machine.proofs.Accepted.{none-of, passed-over, none-given}
 
 -- those of whom 11 is given, unless they are finished
 abbrev over : Machine → ℕ → Bool

@@ -13,7 +13,7 @@ use Rattle.sets.proofs.Sizes.{size-zero, size-idle}
 use Rattle.sets.proofs.Unions.{union-size}
 use Rattle.machine.specs.declared.Job.{Job}
 use Rattle.machine.specs.declared.Machine.{Machine}
-use Rattle.machine.specs.Jobs.{isRunning, job, held, running, busy, idleCount}
+use Rattle.machine.specs.Jobs.{isRunning, job, held, running, busy, idlePartitions}
 use Rattle.machine.proofs.StateParts.{GoodJob, GoodState, when-running, when-not-running, busy-lt}
 use Rattle.lives.specs.Life.{runs}
 use Rattle.conduct.specs.Lives.{life}
@@ -38,8 +38,8 @@ module _ {m : Machine} (g : GoodState m) where
       union-size (λ i. held m (suc i)) mostPartitions (m .table .n) (g .apart)
       ∙ sum-ext _ _ (m .table .n) (λ i l. held-size (g .each i l))
 
-  pub idle-partitions : idleCount m ≡ P (m .table) - heldCount m
-  idle-partitions = size-idle mostPartitions (P (m .table)) (busy m) (g .table .partitions) (busy-lt g) ∙ rw busy-size
+  pub idle-partitions : idlePartitions m .0 ≡ P (m .table) - heldCount m
+  idle-partitions = size-idle mostPartitions (P (m .table)) (busy m) (g .table .sizes .partitions) (busy-lt g) ∙ rw busy-size
 
 pub running-jobs : (m : Machine) → running m ≡ Σ (m .table .n) (λ k. runs (life (job m k)))
 unfolding running

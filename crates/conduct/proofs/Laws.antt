@@ -25,8 +25,8 @@ use Rattle.lives.specs.Life.{Allowed}
 use Rattle.admission.specs.Test.{row}
 use Rattle.conduct.specs.Lives.{life}
 use Rattle.conduct.specs.Conduct.{FullFor, Conduct}
-use Rattle.conduct.proofs.Accepted.{accepted-is}
-use Rattle.conduct.proofs.Taken.{taken}
+use Rattle.machine.proofs.Accepted.{accepted-is}
+use Rattle.machine.proofs.Taken.{taken}
 use Rattle.conduct.proofs.Lives.{one-true, shows}
 use Rattle.conduct.proofs.Lemma1.{full-of}
 use Rattle.conduct.proofs.Ready.{readied-good}
@@ -94,7 +94,7 @@ module _ (m : Machine) (R F : ℕ) (len : length (m .table .rows) ≡ mostTasks)
     τi = τ t (suc i)
 
     is-readied : job (readied m R F) (suc i) ≡ readiedJob τi (hasTask R (suc i)) (hasTask F (suc i)) (job m (suc i))
-    is-readied = readied-job m (suc i) (omega arith) l (omega (arith, good-before .table .few)) R F
+    is-readied = readied-job m (suc i) (omega arith) l (omega (arith, good-before .table .sizes .few)) R F
 
     started-is : hasTask S (suc i) ≡ starts (job (readied m R F) (suc i)) (job x (suc i))
     started-is =
@@ -106,7 +106,7 @@ module _ (m : Machine) (R F : ℕ) (len : length (m .table .rows) ≡ mostTasks)
     allows =
         rw (started-is, is-readied)
         (allowed τi (hasTask R (suc i)) (hasTask F (suc i)) (job m (suc i)) (job x (suc i))
-        (taken m R F (good-before .table .few) (accepted-is m R F ok) (suc i) (omega arith) l))
+        (taken m R F (good-before .table .sizes .few) (accepted-is m R F ok) (suc i) (omega arith) l))
 
     moves : L.start (hasTask S (suc i)) (L.release (hasTask R (suc i)) (L.finish (hasTask F (suc i)) (L.rise (top τi) (life (job m (suc i))))))
         ≡ life (job x (suc i))

@@ -1,6 +1,4 @@
 -- Laws of an accepted tick, for what is proved of sequences of ticks.
-pub mod Accepted
-pub mod Taken
 pub mod Lives
 pub mod Idle
 pub mod Ready

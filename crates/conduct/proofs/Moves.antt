@@ -12,7 +12,7 @@ use Rattle.machine.proofs.StateParts.{not-both}
 use Rattle.lives.specs.Life.{age, ran, idles, waits, runs, rise, finish, release, start, Allowed}
 use Rattle.admission.specs.Test.{row}
 use Rattle.conduct.specs.Lives.{life}
-use Rattle.conduct.proofs.Taken.{Taken}
+use Rattle.machine.proofs.Taken.{Taken}
 use Rattle.conduct.proofs.Lives.{one-true, shows, life-older, life-finished, life-readied, life-begun}
 use Rattle.conduct.proofs.Starting.{Began, stayed, began}
 

@@ -23,8 +23,8 @@ use Rattle.machine.specs.Tick.{readied}
 use Rattle.machine.proofs.Jobs.{for-past, finishedJob, readiedJob, readied-pass, readied-job, readied-table}
 use Rattle.machine.proofs.Queue.{ended-rests}
 use Rattle.machine.proofs.StateParts.{ByStage, is-idle, is-waiting, is-running, GoodJob, GoodState, when-idle}
-use Rattle.conduct.proofs.Accepted.{Accepted}
-use Rattle.conduct.proofs.Taken.{taken}
+use Rattle.machine.proofs.Accepted.{Accepted}
+use Rattle.machine.proofs.Taken.{taken}
 use Rattle.conduct.proofs.Lives.{one}
 
 module _ {p : ℕ} {τ : Task} (row : GoodRow p τ) where
@@ -67,7 +67,7 @@ runs-less τ false false j = le-refl (one (isRunning (j .stage)))
 module _ (m : Machine) (R F : ℕ) (g : GoodState m) (a : Accepted m R F) where
   module _ (i : ℕ) (l : i < m .table .n) where
     few : suc i ≤ mostTasks
-    few = omega (arith, g .table .few)
+    few = omega (arith, g .table .sizes .few)
 
     is : job (readied m R F) (suc i) ≡ readiedJob (τ (m .table) (suc i)) (hasTask R (suc i)) (hasTask F (suc i)) (job m (suc i))
     is = readied-job m (suc i) (omega arith) l few R F
@@ -75,7 +75,7 @@ module _ (m : Machine) (R F : ℕ) (g : GoodState m) (a : Accepted m R F) where
     each-good : GoodJob (P (m .table)) (τ (m .table) (suc i)) (job (readied m R F) (suc i))
     each-good =
         let row = g .table .row i l in
-        let t = taken m R F (g .table .few) a (suc i) (omega arith) l in
+        let t = taken m R F (g .table .sizes .few) a (suc i) (omega arith) l in
         rw is (released-good row (hasTask R (suc i)) _ (finished-good row (hasTask F (suc i)) (job m (suc i)) (g .each i l) (t .notOver)) (t .free))
 
     within : Within (held (readied m R F) (suc i)) (held m (suc i))
@@ -98,7 +98,7 @@ module _ (m : Machine) (R F : ℕ) (g : GoodState m) (a : Accepted m R F) where
   unfolding forTasks
   readied-good =
       record {
-        accepted = g .accepted;
+        unrefused = g .unrefused;
         table = g .table;
         noTasks = g .noTasks;
         noJobs = past;

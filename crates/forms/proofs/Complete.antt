@@ -10,7 +10,7 @@ use borrow.Author.Tests.{eq-eqb}
 use lib.ListN.{length, length-append}
 use Rattle.forms.specs.Digits.{digit, digits}
 use Rattle.forms.specs.Forms
-use Rattle.forms.specs.Forms.{Form, columns, Within, Each, Good, crlf, ending, line, lines, text}
+use Rattle.forms.specs.Forms.{Form, columns, Within, EachRow, GoodRows, crlf, ending, line, lines, text}
 use Rattle.forms.specs.Reads.{Answer, found, refused, Begins}
 use Rattle.forms.specs.Reader.{run, grow, State, word, cell, mayBegin, mayEnd, step, rowsAt, start, read}
 use Rattle.forms.proofs.Digits.{one-digit, add-digit}
@@ -122,7 +122,7 @@ module _ (F : Form) where
   snoc-length : (rows : List (List ℕ)) (row : List ℕ) → length (rows ++ (row ∷ [])) ≡ suc (length rows)
   snoc-length rows row = simp length-append (omega arith)
 
-  rows-to : (rows more : List (List ℕ)) → Each (columns F) more → (F .one ≡ true → length rows + length more ≡ 1)
+  rows-to : (rows more : List (List ℕ)) → EachRow (columns F) more → (F .one ≡ true → length rows + length more ≡ 1)
       → To (word rows []) (lines more) (rows ++ more)
   unfolding lines
   rows-to rows more Forms.none h = rw append-nil (end-to rows (λ e. let s = h e in omega arith))
@@ -132,7 +132,7 @@ module _ (F : Form) where
       (rw append-assoc at (rows-to (rows ++ (row ∷ [])) rest each (λ e. let s = h e in omega (arith, snoc-length rows row)))))
 
   -- reading what was written gives it back
-  pub complete : (rows : List (List ℕ)) → Good F rows → read F (text F rows) ≡ found rows
+  pub complete : (rows : List (List ℕ)) → GoodRows F rows → read F (text F rows) ≡ found rows
   unfolding read text
   complete rows good =
       rw (← append-assoc)

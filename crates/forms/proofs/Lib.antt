@@ -1,4 +1,5 @@
 pub mod Digits
+pub mod Sizes
 pub mod Lines
 pub mod Grow
 pub mod Runs

@@ -1,11 +1,12 @@
 -- The text of rows, from the left: a number more, a row more.
-use Prim.Native.Nat.{ℕ, _≤_}
+use Prim.Native.Nat.{ℕ, zero, suc, _≤_}
 use mathlib.Core.Path.{_≡_, refl, ap}
 use mathlib.Core.List.{List, [], _∷_, _++_, append-assoc, append-nil}
 use mathlib.Core.Option.{Option, none, some}
+use Rattle.forms.specs.Bytes.{comma}
 use Rattle.forms.specs.Digits.{digits}
 use Rattle.forms.specs.Forms
-use Rattle.forms.specs.Forms.{Form, Within, Each, crlf, ending, line, lines, text}
+use Rattle.forms.specs.Forms.{Form, Within, EachRow, crlf, ending, line, lines, text}
 
 -- numbers that a comma follows, and what has come of the next
 unfoldable pub cells : List ℕ → List ℕ
@@ -20,11 +21,15 @@ abbrev pub bound : Option ℕ → ℕ
 bound none = 0
 bound (some v) = v
 
+pub ending-more : (left : ℕ) → (left ≡ 0 → ⊥) → ending left ≡ comma ∷ []
+ending-more zero h = absurd (h refl)
+ending-more (suc left) h = refl
+
 pub within-snoc : {ms ns : List ℕ} {m n : ℕ} → Within ms ns → n ≤ m → Within (ms ++ (m ∷ [])) (ns ++ (n ∷ []))
 within-snoc Forms.none f = Forms.also f Forms.none
 within-snoc (Forms.also g w) f = Forms.also g (within-snoc w f)
 
-pub each-snoc : {ms row : List ℕ} {rows : List (List ℕ)} → Each ms rows → Within ms row → Each ms (rows ++ (row ∷ []))
+pub each-snoc : {ms row : List ℕ} {rows : List (List ℕ)} → EachRow ms rows → Within ms row → EachRow ms (rows ++ (row ∷ []))
 each-snoc Forms.none w = Forms.also w Forms.none
 each-snoc (Forms.also v each) w = Forms.also v (each-snoc each w)
 

@@ -10,7 +10,7 @@ use borrow.Author.Tests.{eqb-true}
 use lib.Dec.{eqb}
 use lib.ListN.{length, length-append}
 use Rattle.forms.specs.Forms
-use Rattle.forms.specs.Forms.{Form, columns, Within, Each, Good, lines, text}
+use Rattle.forms.specs.Forms.{Form, columns, Within, EachRow, GoodRows, lines, text}
 use Rattle.forms.specs.Reads.{Answer, found, refused}
 use Rattle.forms.specs.Reader.{run, later, ended, keep, grow, State, word, cell, leave, inside, mayBegin, mayEnd, step, rowsAt, start}
 use Rattle.forms.proofs.Lines.{cells, part, bound, within-snoc, each-snoc, line-snoc, cells-snoc, text-snoc}
@@ -20,12 +20,12 @@ use Rattle.forms.proofs.Runs.{stuck, moves}
 module _ (F : Form) where
   pub record AtWord (rows : List (List ℕ)) (w bytes : List ℕ) : Type 0 where
     spelt : bytes ++ w ≡ text F rows
-    each : Each (columns F) rows
+    each : EachRow (columns F) rows
     alone : F .one ≡ true → length rows ≤ 1
 
   pub record AtCell (rows : List (List ℕ)) (ns : List ℕ) (m : ℕ) (cs : List ℕ) (v : Option ℕ) (bytes : List ℕ) : Type 0 where
     spelt : bytes ≡ text F rows ++ (cells ns ++ part v)
-    each : Each (columns F) rows
+    each : EachRow (columns F) rows
     alone : F .one ≡ true → length rows ≡ 0
     -- the columns of the numbers that have come
     past : List ℕ
@@ -103,7 +103,7 @@ module _ (F : Form) where
   may-end false [] e o = let z : _≡_ {A = ℕ} 0 1 = cc in omega arith
 
   abbrev pub Right : List ℕ → Answer (List (List ℕ)) → Type 0
-  Right bytes (found rows) = Good F rows × (text F rows ≡ bytes)
+  Right bytes (found rows) = GoodRows F rows × (text F rows ≡ bytes)
   Right bytes (refused k) = Unit {0}
 
   right-later : (bytes : List ℕ) (x : Answer (List (List ℕ))) → Right bytes x → Right bytes (later 1 x)

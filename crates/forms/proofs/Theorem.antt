@@ -6,9 +6,10 @@ use mathlib.Core.Option.{Option, none, some}
 use native.Mathlib.Omega.{arith}
 use native.Mathlib.Decide.{decLt}
 use Rattle.forms.specs.Forms
-use Rattle.forms.specs.Forms.{Form, Good, text, GoodText, crlf, lines}
+use Rattle.forms.specs.Forms.{Form, GoodRows, text, GoodText, crlf, lines}
 use Rattle.forms.specs.Reads.{Answer, found, refused, Begins, Longest, NoText, Reads}
 use Rattle.forms.specs.Reader.{run, step, rowsAt, start, read}
+use Rattle.forms.specs.Rightly.{ReadsRightly}
 use Rattle.forms.proofs.Runs.{Takes, Told, told}
 use Rattle.forms.proofs.Complete.{complete, live}
 use Rattle.forms.proofs.Sound.{Right, sound, at-start}
@@ -32,12 +33,12 @@ one-longest {j} {k} g h = go (decLt j k) (decLt k j)
 
 module _ (F : Form) where
   -- writing what was read gives the same bytes
-  pub written : (bytes : List ℕ) (rows : List (List ℕ)) → read F bytes ≡ found rows → Good F rows × (text F rows ≡ bytes)
+  pub written : (bytes : List ℕ) (rows : List (List ℕ)) → read F bytes ≡ found rows → GoodRows F rows × (text F rows ≡ bytes)
   unfolding read
   written bytes rows e = rw e at (sound F (start F) [] bytes (at-start F))
 
   -- two good inputs with the same text are equal
-  pub unique : (rows others : List (List ℕ)) → Good F rows → Good F others → text F rows ≡ text F others → rows ≡ others
+  pub unique : (rows others : List (List ℕ)) → GoodRows F rows → GoodRows F others → text F rows ≡ text F others → rows ≡ others
   unique rows others g h e =
       let x : found rows ≡ found others = sym (complete F rows g) ∙ ap (read F) e ∙ complete F others h in
       cc
@@ -67,3 +68,6 @@ module _ (F : Form) where
   only bytes (found rows) (refused k) g h = absurd (h .bad (rows, g .0, g .1))
   only bytes (refused k) (found rows) g h = absurd (g .bad (rows, h .0, h .1))
   only bytes (refused j) (refused k) g h = ap refused (one-longest (g .offset) (h .offset))
+
+pub reads-rightly : ReadsRightly
+reads-rightly = record { reads = reads; only = λ F bytes x h. only F bytes x (read F bytes) h (reads F bytes); back = complete }

@@ -37,12 +37,12 @@ pub data Within : List ℕ → List ℕ → Type 0 where
   none : Within [] []
   also : {m n : ℕ} {ms ns : List ℕ} → n ≤ m → Within ms ns → Within (m ∷ ms) (n ∷ ns)
 
-pub data Each (ms : List ℕ) : List (List ℕ) → Type 0 where
-  none : Each ms []
-  also : {row : List ℕ} {rows : List (List ℕ)} → Within ms row → Each ms rows → Each ms (row ∷ rows)
+pub data EachRow (ms : List ℕ) : List (List ℕ) → Type 0 where
+  none : EachRow ms []
+  also : {row : List ℕ} {rows : List (List ℕ)} → Within ms row → EachRow ms rows → EachRow ms (row ∷ rows)
 
-pub record Good (F : Form) (rows : List (List ℕ)) : Type 0 where
-  pub each : Each (columns F) rows
+pub record GoodRows (F : Form) (rows : List (List ℕ)) : Type 0 where
+  pub each : EachRow (columns F) rows
   pub alone : F .one ≡ true → length rows ≡ 1
 
 abbrev pub crlf : List ℕ
@@ -66,4 +66,4 @@ unfoldable pub text : Form → List (List ℕ) → List ℕ
 text F rows = F .header ++ (crlf ++ lines rows)
 
 abbrev pub GoodText : Form → List ℕ → Type 0
-GoodText F bytes = (rows : List (List ℕ)) × Good F rows × (text F rows ≡ bytes)
+GoodText F bytes = (rows : List (List ℕ)) × GoodRows F rows × (text F rows ≡ bytes)

@@ -3,3 +3,4 @@ pub mod Digits
 pub mod Forms
 pub mod Reads
 pub mod Reader
+pub mod Rightly

@@ -4,7 +4,7 @@ use Prim.Native.Nat.{ℕ, _≤_, _<_}
 use mathlib.Core.Path.{_≡_}
 use mathlib.Core.List.{List, _++_}
 use lib.ListN.{length, take}
-use Rattle.forms.specs.Forms.{Form, Good, text, GoodText}
+use Rattle.forms.specs.Forms.{Form, GoodRows, text, GoodText}
 
 pub data Answer (A : Type 0) : Type 0 where
   found : A → Answer A
@@ -24,5 +24,5 @@ pub record NoText (F : Form) (bytes : List ℕ) (k : ℕ) : Type 0 where
   pub offset : Longest (GoodText F) bytes k
 
 abbrev pub Reads : Form → List ℕ → Answer (List (List ℕ)) → Type 0
-Reads F bytes (found rows) = Good F rows × (text F rows ≡ bytes)
+Reads F bytes (found rows) = GoodRows F rows × (text F rows ≡ bytes)
 Reads F bytes (refused k) = NoText F bytes k

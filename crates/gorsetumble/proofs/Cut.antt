@@ -10,7 +10,7 @@ use ghost.Atoms.{Atoms, sem}
 use types.Kit.{Given, ‵, _⊛_, _$_, _∵_, !, qed, move, use1, use2, split, fsplit, fjoin, done}
 use types.Kit as Kit
 use denote.RattleType.{RattleType}
-use denote.Memory.{mem, partAt}
+use denote.Memory.{mem}
 use denote.Index.{row, place}
 use denote.Steps.{nothing}
 

@@ -9,12 +9,13 @@ use native.Mathlib.Decide.{decLt}
 use borrow.Author.Tests.{lt-ltb, le-ltb, eqb-true, ne-eqb}
 use lib.Dec.{eqb}
 use lib.ListN.{length}
-use Rattle.maths.proofs.Tasks.{length-tabulate}
+use Rattle.maths.proofs.Padded.{length-padded}
 use Rattle.table.specs.declared.Platform.{Platform}
 use Rattle.table.specs.declared.Task.{Task}
 use Rattle.table.specs.declared.Table.{Table}
 use Rattle.table.specs.Limits.{mostTasks}
 use Rattle.table.specs.Refused.{refusal, tableRules}
+use Rattle.table.specs.Tasks.{noTask, tableOf}
 use Rattle.admission.proofs.Answers.{answers-agree}
 use Rattle.machine.specs.declared.Job.{Job}
 use Rattle.machine.specs.declared.Machine.{Machine}
@@ -28,10 +29,10 @@ use Rattle.machine.specs.Tick.{tickRefusal, accepted, refusedAnswer, tick}
 use Rattle.machine.proofs.StateParts.{Staged, when-good}
 use Rattle.machine.proofs.StateTest.{state-good}
 use Rattle.machine.proofs.StateFresh.{set-up-fresh, set-up-forgets, set-up-refused}
+use Rattle.promise.specs.Sequences.{Report}
 use Rattle.promise.specs.Promise.{Admitted, Kept}
 use Rattle.promise.proofs.Demand3 as promise
 use Rattle.promise.proofs.Test.{not-refused}
-use Rattle.gorsetumble.specs.Lent.{tableOf}
 use Rattle.gorsetumble.specs.Demands.{LentDemand1, LentDemand2, LentDemand3, since}
 
 pub set-up-number : (m : Machine) (t : Table) → setUp m t .refused .number ≡ refusal t .number
@@ -92,11 +93,13 @@ too-many-refused p rows l = rw (le-ltb (length rows) 1 (omega arith), lt-ltb mos
 pub demand-2 : LentDemand2
 demand-2 = record { none = no-rows-refused; tooMany = too-many-refused; agree = λ p rows. answers-agree (tableOf p rows) }
 
-pub demand-3 : LentDemand3
-demand-3 m p rows v reports =
-    let t : Table = tableOf p rows in
-    let a : Admitted t = record { whole = length-tabulate _ mostTasks; verdict = v } in
+-- of a table that is admitted: set-up is not refused, and from there on the machine keeps the promise
+pub promised : (m : Machine) (t : Table) → Admitted t → (reports : List Report) → (setUp m t .refused .number ≡ 0) × Kept t (since (setUp m t .machine) reports)
+promised m t a reports =
     let fits : refusal t .number ≡ 0 = not-refused t a in (
       set-up-number m t ∙ fits,
       subst (λ (s : Machine). Kept t (since s reports)) (sym (ap (λ (s : SetUp). s .machine) (set-up-fresh m t fits))) (promise.demand-3 t a reports),
     )
+
+pub demand-3 : LentDemand3
+demand-3 m p rows v = promised m (tableOf p rows) (record { whole = length-padded noTask mostTasks rows; verdict = v })

@@ -26,12 +26,12 @@ use denote.Triple.Statement.{Triple}
 use denote.Triple.Spec.{Meets, tripleOf}
 use Rattle.table.specs.declared.Platform.{Platform}
 use Rattle.table.specs.declared.Table.{Table}
-use Rattle.gorsetumble.specs.Lent.{tableOf}
-use Rattle.gorsetumble.proofs.Data.{Data, Value, row, ty, val, vals, Fits, told, made, typed}
+use Rattle.table.specs.Tasks.{tableOf}
+use Rattle.lent.proofs.Data.{Data, Value, row, ty, val, vals, Fits, told, made, typed}
 use Rattle.gorsetumble.proofs.OfRows.{ended, clauses, Entry, Post, exits, meets-by}
 use Rattle.gorsetumble.proofs.Rows.{TableOf, calls-table}
 use Rattle.gorsetumble.proofs.Tables.{platform, task, table, Rows}
-use Rattle.gorsetumble.proofs.Walk.{by-value, calls-plain}
+use Rattle.lent.proofs.Walk.{by-value, calls-plain}
 use Rattle.gorsetumble.proofs.table_of.Symbol.{name as #table-of}
 
 module _ (N : Data) (f : Table → Value N) (#work : Name) where

@@ -1,5 +1,7 @@
+pub mod Board
+pub mod BoardContracts
+pub mod Contracts
 pub mod Cut
-pub mod Data
 pub mod Demands
 pub mod Determined
 pub mod Fill
@@ -8,10 +10,9 @@ pub mod FromTexts
 pub mod TextsRows
 pub mod Judged
 pub mod Lends
-pub mod Moved
 pub mod OfRows
 pub mod Renewed
 pub mod Rows
+pub mod Stores
 pub mod Tables
-pub mod Walk
 pub mod RenewedTexts

@@ -24,7 +24,7 @@ use denote.Triple.Spec.{Meets}
 use denote.Triple.Walked.{says, Stays, stay-none, stay-none-slice, walkOf, goes-none, goes-none-slice, ends-at, walked, walk-meets}
 use Rattle.table.specs.declared.Platform.{Platform}
 use Rattle.table.specs.declared.Task.{Task}
-use Rattle.gorsetumble.proofs.Data.{Data, Value, row, val, vals, Fits, told, made}
+use Rattle.lent.proofs.Data.{Data, Value, row, val, vals, Fits, told, made}
 use Rattle.gorsetumble.proofs.Tables.{platform, task, Rows, lent}
 
 -- the result's type, and what the function computes

@@ -22,10 +22,10 @@ use denote.Triple.Statement.{Contract, Triple}
 use denote.Triple.Spec.{tripleOf}
 use Rattle.table.specs.declared.Platform.{Platform}
 use Rattle.table.specs.declared.Table.{Table}
-use Rattle.gorsetumble.specs.Lent.{tableOf}
-use Rattle.gorsetumble.proofs.Data.{row, val, vals, Fits, told, made}
+use Rattle.table.specs.Tasks.{tableOf}
+use Rattle.lent.proofs.Data.{row, val, vals, Fits, told, made}
 use Rattle.gorsetumble.proofs.Tables.{platform, task, table, Rows, lent}
-use Rattle.gorsetumble.proofs.Walk.{calls-told}
+use Rattle.lent.proofs.Walk.{calls-told}
 use Rattle.gorsetumble.proofs.table_of as table-of
 
 module _ {M : Type 1} (𝓤 : URA M) (H : Heap 𝓤) (A : Atoms 𝓤) (mem : Memory → SProp 𝓤) (run : Routine → Fun 𝓤) where

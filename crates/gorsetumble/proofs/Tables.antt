@@ -1,4 +1,4 @@
--- The records of a table and of a machine as the walks know them, and a lent row of tasks.
+-- The records of a table as the walks know them, and a lent row of tasks.
 use mathlib.Core.List.{List}
 use mir.Syntax.{named}
 use base.Fml.{Lft, Fml}
@@ -13,11 +13,7 @@ use Rattle.table.proofs.Table as B
 use Rattle.table.proofs.Table.Laws as B′
 use Rattle.table.proofs.Refusal as N
 use Rattle.table.proofs.Refusal.Laws as N′
-use Rattle.machine.proofs.Machine as T
-use Rattle.machine.proofs.Machine.Laws as T′
-use Rattle.machine.proofs.Answer as A
-use Rattle.machine.proofs.Answer.Laws as A′
-use Rattle.gorsetumble.proofs.Data.{Data, row}
+use Rattle.lent.proofs.Data.{Data, row}
 
 abbrev pub platform : Data
 platform = record { type = P.the-type; laws = P′.the-laws; plain = P′.the-plain }
@@ -30,12 +26,6 @@ table = record { type = B.the-type; laws = B′.the-laws; plain = B′.the-plain
 
 abbrev pub refusal : Data
 refusal = record { type = N.the-type; laws = N′.the-laws; plain = N′.the-plain }
-
-abbrev pub machine : Data
-machine = record { type = T.the-type; laws = T′.the-laws; plain = T′.the-plain }
-
-abbrev pub answer : Data
-answer = record { type = A.the-type; laws = A′.the-laws; plain = A′.the-plain }
 
 abbrev pub Rows : Type 0
 Rows = RefT (List Task)

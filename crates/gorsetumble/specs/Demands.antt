@@ -11,16 +11,14 @@ use Rattle.table.specs.declared.Task.{Task}
 use Rattle.table.specs.declared.Refusal.{Refusal}
 use Rattle.table.specs.Limits.{mostTasks}
 use Rattle.table.specs.Refused.{refusal}
-use Rattle.admission.specs.Answers.{fullAnswer, quickAnswer}
-use Rattle.admission.specs.declared.FullAnswer.{FullAnswer}
-use Rattle.admission.specs.declared.QuickAnswer.{QuickAnswer}
+use Rattle.table.specs.Tasks.{tableOf}
+use Rattle.admission.specs.Answers.{fullAnswer, quickAnswer, withoutMargins}
 use Rattle.machine.specs.declared.Machine.{Machine}
 use Rattle.machine.specs.Fresh.{setUp}
 use Rattle.machine.specs.Jobs.{job}
 use Rattle.machine.specs.Tick.{refusedAnswer, tick}
 use Rattle.promise.specs.Sequences.{Report, Sequence, steps}
 use Rattle.promise.specs.Promise.{Kept}
-use Rattle.gorsetumble.specs.Lent.{tableOf}
 
 pub record LentDemand1 : Type 0 where
   -- A set-up that is refused leaves the machine as it was lent.
@@ -35,10 +33,6 @@ pub record LentDemand1 : Type 0 where
   -- A tick that is refused leaves the machine as it was lent, and answers 0 for its sets.
   pub tickRefused : (m : Machine) (released finished : ℕ) → tick m released finished .answer .refused .number ≢ 0
       → (tick m released finished .machine ≡ m) × (tick m released finished .answer ≡ refusedAnswer (tick m released finished .answer .refused))
-
--- the full answer without its margins
-abbrev pub withoutMargins : FullAnswer → QuickAnswer
-withoutMargins a = record { refused = a .refused; admitted = a .admitted; first = a .first }
 
 pub record LentDemand2 : Type 0 where
   -- No row at all, and more rows than a table keeps, however many, earn refusal 1.

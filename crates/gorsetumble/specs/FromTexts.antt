@@ -1,29 +1,35 @@
--- Set-up from two texts: the table that they give, or the refusal of the first that is not of its form; a refusal leaves the old machine.
+-- Set-up from two texts (document 01, "Texts" and "Numbers of refusals"): 15 with its offset and which text it is in, the platform being read
+-- whole first; then 1 to 8 of the table that the texts give. A refusal leaves the old machine.
 use Prim.Native.Nat.{ℕ}
-use mathlib.Core.Bool.{cond}
 use mathlib.Core.List.{List}
-use lib.Dec.{eqb}
 use Rattle.forms.specs.Forms.{platformForm, tasksForm}
+use Rattle.forms.specs.Reads.{Answer, found, refused}
 use Rattle.forms.specs.Reader.{read}
-use Rattle.table.specs.declared.Refusal.{Refusal}
-use Rattle.table.specs.declared.Table.{Table}
-use Rattle.table.specs.Refused.{noRefusal}
-use Rattle.table.specs.Tasks.{emptyTable}
-use Rattle.readers.specs.declared.TableRead.{TableRead}
-use Rattle.readers.specs.Inputs.{noPlatform}
+use Rattle.readers.specs.Inputs.{badText, tableFrom}
 use Rattle.machine.specs.declared.Machine.{Machine}
 use Rattle.machine.specs.declared.SetUp.{SetUp}
 use Rattle.machine.specs.Fresh.{setUp}
-use Rattle.texts.specs.Given.{given}
+use Rattle.gorsetumble.specs.declared.texting.TextRefusal.{TextRefusal}
+use Rattle.gorsetumble.specs.declared.texting.TextsSetUp.{TextsSetUp}
 
-abbrev pub badRead : Refusal → TableRead
-badRead r = record { refused = r; table = emptyTable noPlatform }
+-- which text a refusal is in: 0 where it is in none
+abbrev pub inPlatform : ℕ
+inPlatform = 1
 
-abbrev pub goodRead : Table → TableRead
-goodRead t = record { refused = noRefusal; table = t }
+abbrev pub inTasks : ℕ
+inTasks = 2
 
-unfoldable pub textsRead : List ℕ → List ℕ → TableRead
-textsRead platform tasks = given badRead goodRead (read platformForm platform) (read tasksForm tasks)
+abbrev pub badIn : ℕ → ℕ → TextRefusal
+badIn text offset = record { refused = badText offset; text = text }
 
-unfoldable pub setUpRead : Machine → TableRead → SetUp
-setUpRead old t = cond (eqb (t .refused .number) 0) (setUp old (t .table)) (record { refused = t .refused; machine = old })
+-- what comes of a table that was read
+abbrev pub ofTable : SetUp → TextsSetUp
+ofTable s = record { refused = record { refused = s .refused; text = 0 }; machine = s .machine }
+
+abbrev pub setUpRead : Machine → Answer (List (List ℕ)) → Answer (List (List ℕ)) → TextsSetUp
+setUpRead old (refused offset) tasks = record { refused = badIn inPlatform offset; machine = old }
+setUpRead old (found platform) (refused offset) = record { refused = badIn inTasks offset; machine = old }
+setUpRead old (found platform) (found rows) = ofTable (setUp old (tableFrom platform rows))
+
+unfoldable pub setUpTexts : Machine → List ℕ → List ℕ → TextsSetUp
+setUpTexts old platform tasks = setUpRead old (read platformForm platform) (read tasksForm tasks)

@@ -1,3 +1,4 @@
-pub mod Lent
 pub mod Demands
 pub mod FromTexts
+pub mod Board
+pub mod Code

@@ -3,12 +3,11 @@ pub mod lending;
 pub mod texting;
 
 ghost use mathlib.Core.Path.{_≡_};
-ghost use Prim.Native.Nat.{_<_, min};
-ghost use Rattle.table.specs.Limits.{mostTasks};
+ghost use Rattle.table.specs.Tasks.{tableOf};
 ghost use Rattle.admission.specs.Answers.{fullAnswer, quickAnswer};
 ghost use Rattle.machine.specs.Fresh.{setUp};
 ghost use Rattle.machine.specs.Tick.{tick};
-ghost use Rattle.gorsetumble.specs.Lent.{tableOf, noRows, withRow};
+ghost use Rattle.gorsetumble.specs.Code.Rows.{noRows, withRows};
 use admission::FullAnswer;
 use admission::QuickAnswer;
 use machine::Answer;
@@ -18,46 +17,36 @@ use table::Refusal;
 use table::Table;
 use table::Task;
 
-// How many of n rows a table keeps.
-fn kept(n: usize) -> usize
-    ensures { λ r. ⌜ r ≡ min n mostTasks ⌝ }
+fn no_rows() -> [Task; Table::MOST]
+    ensures { λ r. ⌜ r ≡ noRows ⌝ }
 {
-    if n < Table::MOST { n } else { Table::MOST }
+    [Task::none(); Table::MOST]
 }
 
-// A table that says n rows and has none.
-fn no_rows(platform: Platform, n: usize) -> Table
-    ensures { λ r. ⌜ r ≡ noRows platform n ⌝ }
+fn whole(platform: Platform, n: usize, rows: [Task; Table::MOST]) -> Table
+    ensures { λ r. ⌜ r ≡ withRows platform n rows ⌝ }
 {
     Table {
         platform: platform,
         n: n,
-        rows: [Task::none(); Table::MOST],
+        rows: rows,
     }
 }
 
-fn with_row(t: Table, i: usize, row: Task) -> Table
-    requires { ⌜ i < mostTasks ⌝ }
-    ensures { λ r. ⌜ r ≡ withRow t i row ⌝ }
-{
-    let mut u = t;
-    u.rows[i] = row;
-    u
-}
-
-// The table of a lent row of task records: their whole count, and the first of them as far as a table goes.
-pub fn table_of(platform: Platform, rows: &[Task]) -> Table
+// The table of a lent row of task records: their whole count, and the first of them as far as a table goes. The rows are stored in place, one by one: a
+// table that is handed on by value at each would be copied at each.
+fn table_of(platform: Platform, rows: &[Task]) -> Table
     ensures { λ r. ⌜ r ≡ tableOf platform (now (rows .entry)) ⌝ }
 {
     let n = rows.len();
-    let m = kept(n);
-    let mut t = no_rows(platform, n);
+    let m = Table::entries(n);
+    let mut first = no_rows();
     let mut i: usize = 0;
     while i < m {
-        t = with_row(t, i, rows[i]);
+        first[i] = rows[i];
         i += 1;
     }
-    t
+    whole(platform, n, first)
 }
 
 #[no_mangle]
@@ -91,7 +80,5 @@ pub extern "C" fn gorsetumble_set_up(m: &mut Machine, platform: Platform, rows: 
 pub extern "C" fn gorsetumble_tick(m: &mut Machine, released: u32, finished: u32) -> Answer
     ensures { λ r. ⌜ (r ≡ tick (now (m .entry)) released finished .answer) × (now (m .exit) ≡ tick (now (m .entry)) released finished .machine) ⌝ }
 {
-    let s = Machine::tick(*m, released, finished);
-    *m = s.machine;
-    s.answer
+    lent::tick(m, released, finished)
 }

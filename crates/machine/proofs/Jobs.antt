@@ -8,7 +8,7 @@ use native.Mathlib.Omega.{arith}
 use native.Mathlib.Decide.{decLe}
 use borrow.Author.Tests.{le-leb, lt-leb}
 use lib.Dec.{leb}
-use lib.ListN.{length, length-set}
+use lib.ListN.{length}
 use lib.Seq.{getD-set-same, getD-set-other, ext-getD}
 use Rattle.maths.proofs.Tasks.{length-tabulate, getD-tabulate}
 use Rattle.table.specs.declared.Table.{Table}
@@ -18,12 +18,12 @@ use Rattle.sets.specs.TaskSets.{hasTask}
 use Rattle.sets.specs.Choice.{choice}
 use Rattle.machine.specs.declared.Job.{Job}
 use Rattle.machine.specs.declared.Machine.{Machine}
-use Rattle.machine.specs.Jobs.{noJob, job, idlePartitions}
+use Rattle.machine.specs.Jobs.{noJob, job, idleSet}
 use Rattle.machine.specs.Steps.{forTasks, older, passed, ended, finish, awaiting, release, begun, start}
-pub use Rattle.machine.specs.Passes.{finishedJob, readiedJob}
+pub use Rattle.machine.specs.Code.Readied.{finishedJob, readiedJob}
 use Rattle.machine.specs.Tick.{readied}
 
-abbrev machineOf : Table → List Job → Machine
+abbrev pub machineOf : Table → List Job → Machine
 machineOf t js = record { table = t; jobs = js }
 
 -- two machines with one table and the same jobs are one
@@ -112,11 +112,8 @@ module _ (m : Machine) (released finished : ℕ) where
 
 -- a start changes one job
 module _ (m : Machine) (i : ℕ) where
-  pub start-length : length (start m i .jobs) ≡ length (m .jobs)
-  start-length = length-set (m .jobs) i _
-
   pub start-same : i < length (m .jobs)
-      → job (start m i) (suc i) ≡ begun (choice (idlePartitions m) (A (τ (m .table) (suc i)))) (job m (suc i))
+      → job (start m i) (suc i) ≡ begun (choice (idleSet m) (A (τ (m .table) (suc i)))) (job m (suc i))
   start-same l = getD-set-same (m .jobs) i _ noJob l
 
   pub start-other : (j : ℕ) → j ≢ i → job (start m i) (suc j) ≡ job m (suc j)

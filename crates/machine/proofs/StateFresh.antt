@@ -42,17 +42,9 @@ module _ (t : Table) where
   unfolding fresh
   fresh-n = refl
 
-  pub fresh-platform : fresh t .table .platform ≡ t .platform
-  unfolding fresh
-  fresh-platform = refl
-
   pub fresh-rows-length : length (fresh t .table .rows) ≡ mostTasks
   unfolding fresh
   fresh-rows-length = length-tabulate _ mostTasks
-
-  pub fresh-jobs-length : length (fresh t .jobs) ≡ mostTasks
-  unfolding fresh
-  fresh-jobs-length = length-tabulate _ mostTasks
 
   module _ (i : ℕ) (few : i < mostTasks) where
     pub fresh-task : i < t .n → τ (fresh t .table) (suc i) ≡ τ t (suc i)
@@ -114,15 +106,15 @@ pub fresh-state : (t : Table) → refusal t .number ≡ 0 → length (t .rows) �
 unfolding fresh
 fresh-state t e len =
     let g = good-of t len e in
-    let accepted : refusal (fresh t .table) .number ≡ 0 = ap (λ (r : Refusal). r .number) (fresh-refusal t len (g .few)) ∙ e in
+    let unrefused : refusal (fresh t .table) .number ≡ 0 = ap (λ (r : Refusal). r .number) (fresh-refusal t len (g .sizes .few)) ∙ e in
     record {
-      accepted = accepted;
-      table = good-of (fresh t .table) (fresh-rows-length t) accepted;
+      unrefused = unrefused;
+      table = good-of (fresh t .table) (fresh-rows-length t) unrefused;
       noTasks = λ i l m. fresh-no-task t i m l;
       noJobs = λ i l m. fresh-no-job t i m l;
-      each = λ i l. let m : i < mostTasks = omega (arith, g .few) in rw (fresh-task t i m l, fresh-job t i m l) (fresh-job-good g i l);
-      apart = λ i j l m. rw (fresh-job t i (omega (arith, g .few)) (omega arith)) (and-zero-l (job (fresh t) (suc j) .held));
-      cores = omega (arith, fresh-running t (g .few));
+      each = λ i l. let m : i < mostTasks = omega (arith, g .sizes .few) in rw (fresh-task t i m l, fresh-job t i m l) (fresh-job-good g i l);
+      apart = λ i j l m. rw (fresh-job t i (omega (arith, g .sizes .few)) (omega arith)) (and-zero-l (job (fresh t) (suc j) .held));
+      cores = omega (arith, fresh-running t (g .sizes .few));
     }
 
 pub fresh-good : (t : Table) → refusal t .number ≡ 0 → length (t .rows) ≡ mostTasks → goodState (fresh t) ≡ true

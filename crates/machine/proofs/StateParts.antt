@@ -70,7 +70,7 @@ pub record GoodJob (p : ℕ) (τ : Task) (j : Job) : Type 0 where
   pub stage : ByStage p τ j (j .stage)
 
 pub record GoodState (m : Machine) : Type 0 where
-  pub accepted : refusal (m .table) .number ≡ 0
+  pub unrefused : refusal (m .table) .number ≡ 0
   pub table : Good (m .table)
   pub noTasks : (i : ℕ) → m .table .n ≤ i → i < mostTasks → τ (m .table) (suc i) ≡ noTask
   pub noJobs : (i : ℕ) → m .table .n ≤ i → i < mostTasks → job m (suc i) ≡ noJob

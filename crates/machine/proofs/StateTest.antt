@@ -131,12 +131,12 @@ state-good m len e =
     let d = both _ _ (c .0) in
     let f = both _ _ (d .0) in
     let n = m .table .n in
-    let accepted : refusal (m .table) .number ≡ 0 = eqb-true (refusal (m .table) .number) 0 (f .0) in
+    let unrefused : refusal (m .table) .number ≡ 0 = eqb-true (refusal (m .table) .number) 0 (f .0) in
     let past : (i : ℕ) → n ≤ i → i < mostTasks → (isNoTask (τ (m .table) (suc i)) ≡ true) × (isNoJob (job m (suc i)) ≡ true) =
     λ i l h. both _ _ (rw (lt-leb (suc i) n (omega arith)) at (every-holds _ mostTasks (f .1) i h)) in
     record {
-      accepted = accepted;
-      table = good-of (m .table) len accepted;
+      unrefused = unrefused;
+      table = good-of (m .table) len unrefused;
       noTasks = λ i l h. no-task _ (past i l h .0);
       noJobs = λ i l h. no-job _ (past i l h .1);
       each = λ i l. job-good _ _ _ (every-holds _ n (d .1) i l);
@@ -148,7 +148,7 @@ pub state-test : (m : Machine) → GoodState m → goodState m ≡ true
 unfolding goodState
 state-test m g =
     rw (
-      eq-eqb (refusal (m .table) .number) 0 (g .accepted),
+      eq-eqb (refusal (m .table) .number) 0 (g .unrefused),
       every-of (λ k. leb k (m .table .n) || isNoTask (τ (m .table) k) && isNoJob (job m k)) mostTasks
           (λ i l. past-test (m .table .n) i _ (λ h. rw (g .noTasks i h l, g .noJobs i h l))),
       every-of (λ k. goodJob (P (m .table)) (τ (m .table) k) (job m k)) (m .table .n) (λ i l. job-test _ _ _ (g .each i l)),

@@ -1,12 +1,12 @@
 -- Refusal 14: the conditions of a state, clause by clause as document 01 lists them.
 use Prim.Native.Nat.{ℕ, suc, _-_}
-use mathlib.Core.Bool.{Bool, true, false, cond, _&&_, _||_}
-use lib.Dec.{ltb, leb, eqb}
+use mathlib.Core.Bool.{Bool, false, cond, _&&_, _||_}
+use lib.Dec.{leb, eqb}
 use Rattle.maths.specs.Tasks.{every}
 use Rattle.table.specs.declared.Task.{Task}
 use Rattle.table.specs.Limits.{mostTasks, mostPartitions}
 use Rattle.table.specs.Tasks.{M, P, τ, D, T, C, A}
-use Rattle.table.specs.Refused.{refusal}
+use Rattle.table.specs.Refused.{unrefused}
 use Rattle.sets.specs.Sets.{size, below, without}
 use Rattle.sets.specs.Families.{allApart}
 use Rattle.machine.specs.declared.Stage.{Stage}
@@ -47,7 +47,7 @@ goodJob p τ j = leb (j .age) (top τ) && goodStage p τ j (j .stage)
 
 unfoldable pub goodState : Machine → Bool
 goodState m =
-    eqb (refusal (m .table) .number) 0
+    unrefused (m .table)
     && every mostTasks (λ k. leb k (m .table .n) || isNoTask (τ (m .table) k) && isNoJob (job m k))
     && every (m .table .n) (λ k. goodJob (P (m .table)) (τ (m .table) k) (job m k))
     && allApart (m .table .n) (λ i. held m (suc i))

@@ -1,12 +1,12 @@
 -- A fresh machine: all tasks idle with age T and no partition held; and set-up, which leaves the old state where the table is refused.
 use Prim.Native.Nat.{ℕ}
-use mathlib.Core.Bool.{Bool, cond}
-use lib.Dec.{leb, eqb}
+use mathlib.Core.Bool.{cond}
+use lib.Dec.{leb}
 use Rattle.maths.specs.Tasks.{tabulate}
 use Rattle.table.specs.declared.Table.{Table}
 use Rattle.table.specs.Limits.{mostTasks}
 use Rattle.table.specs.Tasks.{noTask, τ, T}
-use Rattle.table.specs.Refused.{refusal}
+use Rattle.table.specs.Refused.{refusal, unrefused}
 use Rattle.machine.specs.declared.Job.{Job}
 use Rattle.machine.specs.declared.Machine.{Machine}
 use Rattle.machine.specs.declared.SetUp.{SetUp}
@@ -23,4 +23,4 @@ unfoldable pub fresh : Table → Machine
 fresh t = record { table = trimmed t; jobs = tabulate mostTasks (λ k. cond (leb k (t .n)) (freshJob t k) noJob) }
 
 unfoldable pub setUp : Machine → Table → SetUp
-setUp old t = record { refused = refusal t; machine = cond (eqb (refusal t .number) 0) (fresh t) old }
+setUp old t = record { refused = refusal t; machine = cond (unrefused t) (fresh t) old }

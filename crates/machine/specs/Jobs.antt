@@ -1,15 +1,15 @@
--- The names for what a state holds: the job of task k, who runs, which partitions are busy and idle.
--- Running jobs and idle partitions are counted from the jobs and what they hold; no count is stored.
-use Prim.Native.Nat.{ℕ, suc}
+-- The names for what a state holds: the job of task k, who waits and runs, which partitions are busy and idle.
+-- Idle cores and idle partitions are two counts of two kinds, as in the report: each is counted from the jobs and what they hold, and none is stored.
+use Prim.Native.Nat.{ℕ, suc, _-_}
 use mathlib.Core.Bool.{Bool, cond}
 use lib.Dec.{eqb}
-use lib.ListN.{set}
 use Rattle.maths.specs.Sums.{Σ}
-use Rattle.maths.specs.Tasks.{entry, lowest, tabulate}
+use Rattle.maths.specs.Tasks.{entry}
+use Rattle.table.specs.declared.Cores.{Cores}
+use Rattle.table.specs.declared.Partitions.{Partitions}
 use Rattle.table.specs.declared.Task.{Task}
-use Rattle.table.specs.Limits.{mostTasks, mostPartitions}
-use Rattle.table.specs.Tasks.{P, T}
-use Rattle.sets.specs.Sets.{size, below, without}
+use Rattle.table.specs.Tasks.{M, P, T}
+use Rattle.sets.specs.Sets.{partitionsIn, below, without}
 use Rattle.sets.specs.Families.{unionOf}
 use Rattle.machine.specs.declared.Stage.{Stage}
 use Rattle.machine.specs.declared.Job.{Job}
@@ -58,7 +58,10 @@ waits m k = isWaiting (job m k .stage)
 abbrev pub runs : Machine → ℕ → Bool
 runs m k = isRunning (job m k .stage)
 
--- how many jobs run
+-- how many jobs wait, and how many run
+abbrev pub waiting : Machine → ℕ
+waiting m = Σ (m .table .n) (λ k. cond (waits m k) 1 0)
+
 unfoldable pub running : Machine → ℕ
 running m = Σ (m .table .n) (λ k. cond (runs m k) 1 0)
 
@@ -66,9 +69,13 @@ running m = Σ (m .table .n) (λ k. cond (runs m k) 1 0)
 unfoldable pub busy : Machine → ℕ
 busy m = unionOf (m .table .n) (λ i. held m (suc i))
 
--- the partitions of the platform that no job holds, and how many they are
-abbrev pub idlePartitions : Machine → ℕ
-idlePartitions m = without (below (P (m .table))) (busy m)
+-- the partitions of the platform that no job holds
+abbrev pub idleSet : Machine → ℕ
+idleSet m = without (below (P (m .table))) (busy m)
 
-abbrev pub idleCount : Machine → ℕ
-idleCount m = size mostPartitions (idlePartitions m)
+-- how many cores are idle, a running job having one, and how many partitions are
+abbrev pub idleCores : Machine → Cores
+idleCores m = record { 0 = M (m .table) - running m }
+
+abbrev pub idlePartitions : Machine → Partitions
+idlePartitions m = partitionsIn (idleSet m)

@@ -3,4 +3,4 @@ pub mod Fresh
 pub mod Conditions
 pub mod Steps
 pub mod Tick
-pub mod Passes
+pub mod Code

@@ -1,17 +1,19 @@
 -- The five steps of a tick, in the order and the words of document 01. Step 5 is FP_CA, blocking style (section 4.1 of the report).
 use Prim.Native.Nat.{ℕ, zero, suc, _+_, min}
-use mathlib.Core.Bool.{Bool, true, false, cond, not, _&&_}
-use lib.Dec.{ltb, leb, eqb}
+use mathlib.Core.Bool.{Bool, cond, not, _&&_}
+use lib.Dec.{leb, eqb}
 use lib.ListN.{set}
 use Rattle.maths.specs.Tasks.{lowest, tabulate}
+use Rattle.table.specs.declared.Cores.{Cores}
+use Rattle.table.specs.declared.Partitions.{Partitions}
 use Rattle.table.specs.declared.Task.{Task}
 use Rattle.table.specs.Limits.{mostTasks}
-use Rattle.table.specs.Tasks.{M, τ, D, A}
+use Rattle.table.specs.Tasks.{τ, D, A}
 use Rattle.sets.specs.TaskSets.{hasTask, tasksWhere}
 use Rattle.sets.specs.Choice.{choice}
 use Rattle.machine.specs.declared.Job.{Job}
 use Rattle.machine.specs.declared.Machine.{Machine}
-use Rattle.machine.specs.Jobs.{Idle, Waiting, Running, isRunning, job, top, idles, waits, runs, running, idlePartitions, idleCount}
+use Rattle.machine.specs.Jobs.{Idle, Waiting, Running, isRunning, job, top, idles, waits, waiting, idleSet, idleCores, idlePartitions}
 
 -- the job of each task k from 1 to n changed by f k
 unfoldable pub forTasks : (ℕ → Job → Job) → Machine → Machine
@@ -51,9 +53,17 @@ release released m = forTasks (λ k j. cond (hasTask released k) (awaiting j) j)
 abbrev pub firstWaiting : Machine → ℕ
 firstWaiting m = lowest (m .table .n) (waits m)
 
--- fewer than M jobs run and at least A partitions are idle
+-- what the start of a task asks of the idle cores and of the idle partitions: one core and A partitions
+abbrev pub fitsIn : Cores → Partitions → Task → Bool
+fitsIn cores partitions τ = leb 1 (cores .0) && leb (A τ) (partitions .0)
+
 abbrev pub fits : Machine → ℕ → Bool
-fits m k = ltb (running m) (M (m .table)) && leb (A (τ (m .table) k)) (idleCount m)
+fits m k = fitsIn (idleCores m) (idlePartitions m) (τ (m .table) k)
+
+-- the task that step 5 starts next: the waiting job of lowest number, if it fits; if not, or where none waits, 0, and the step ends, even
+-- where a later job would fit
+abbrev pub pick : Machine → ℕ
+pick m = cond (fits m (firstWaiting m)) (firstWaiting m) 0
 
 -- a job starts, has run 0 ticks, and takes its partitions out of the idle ones
 abbrev pub begun : ℕ → Job → Job
@@ -63,15 +73,19 @@ abbrev pub start : Machine → ℕ → Machine
 start m i =
     record {
       table = m .table;
-      jobs = set (m .jobs) i (begun (choice (idlePartitions m) (A (τ (m .table) (suc i)))) (job m (suc i)));
+      jobs = set (m .jobs) i (begun (choice (idleSet m) (A (τ (m .table) (suc i)))) (job m (suc i)));
     }
 
--- the waiting job of lowest number (0 where none waits): if it fits it starts and the step goes on, if not the step ends
-abbrev pub startFirst : (Machine → Machine) → Machine → ℕ → Machine
-startFirst goOn m zero = m
-startFirst goOn m (suc i) = cond (fits m (suc i)) (goOn (start m i)) m
+-- the picked task starts and the step goes on; with 0 it ends
+abbrev pub startPicked : (Machine → Machine) → Machine → ℕ → Machine
+startPicked goOn m zero = m
+startPicked goOn m (suc i) = goOn (start m i)
 
--- while a waiting job exists, take the one of lowest number: so often at the most as there are tasks
+-- while `pick` names a task, it starts
 unfoldable pub startWaiting : ℕ → Machine → Machine
 startWaiting zero m = m
-startWaiting (suc turns) m = startFirst (startWaiting turns) m (firstWaiting m)
+startWaiting (suc turns) m = startPicked (startWaiting turns) m (pick m)
+
+-- each start leaves one job fewer waiting, so that the step has ended after as many turns as jobs wait
+abbrev pub startAll : Machine → Machine
+startAll m = startWaiting (waiting m) m

@@ -15,7 +15,7 @@ use Rattle.machine.specs.declared.Machine.{Machine}
 use Rattle.machine.specs.declared.Ticked.{Ticked}
 use Rattle.machine.specs.Jobs.{job, idles, waits, runs}
 use Rattle.machine.specs.Conditions.{goodState}
-use Rattle.machine.specs.Steps.{passed, finish, lateSet, release, startWaiting}
+use Rattle.machine.specs.Steps.{passed, finish, lateSet, release, startAll}
 
 -- refusals 9 to 13, of task k
 unfoldable pub tickRules : Machine → ℕ → ℕ → List (Rule ℕ)
@@ -44,7 +44,7 @@ abbrev pub readied : Machine → ℕ → ℕ → Machine
 readied m released finished = release released (finish finished (passed m))
 
 abbrev pub moved : Machine → ℕ → ℕ → Machine
-moved m released finished = startWaiting mostTasks (readied m released finished)
+moved m released finished = startAll (readied m released finished)
 
 abbrev pub startedSet : Machine → Machine → ℕ
 startedSet before now = tasksWhere (λ k. waits before k && runs now k) (now .table .n)
@@ -55,10 +55,9 @@ refusedAnswer refused = record { refused = refused; finished = 0; late = 0; star
 abbrev pub accepted : Machine → ℕ → ℕ → Bool
 accepted m released finished = eqb (tickRefusal m released finished .number) 0
 
-unfoldable pub tick : Machine → ℕ → ℕ → Ticked
-tick m released finished =
-    cond (accepted m released finished)
-    (record {
+abbrev pub acceptedTick : Machine → ℕ → ℕ → Ticked
+acceptedTick m released finished =
+    record {
       machine = moved m released finished;
       answer =
           record {
@@ -67,5 +66,11 @@ tick m released finished =
             late = lateSet m (finish finished (passed m));
             started = startedSet (readied m released finished) (moved m released finished);
           };
-    })
-    (record { machine = m; answer = refusedAnswer (tickRefusal m released finished) })
+    }
+
+abbrev pub refusedTick : Machine → Refusal → Ticked
+refusedTick m refused = record { machine = m; answer = refusedAnswer refused }
+
+unfoldable pub tick : Machine → ℕ → ℕ → Ticked
+tick m released finished =
+    cond (accepted m released finished) (acceptedTick m released finished) (refusedTick m (tickRefusal m released finished))

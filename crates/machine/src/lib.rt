@@ -1,13 +1,8 @@
-// The machine: a table and the job of each task, moved on by ticks under blocking FP_CA.
-mod judging;
-mod moving;
-mod refusing;
+// The machine: a table and the job of each task, and what a tick answers.
 mod state;
-mod tick;
 
 use table::Refusal;
 use table::Table;
-use table::Task;
 
 // 0 idle, 1 waiting, 2 running; no good state has another.
 #[repr(C)]
@@ -45,33 +40,4 @@ pub struct Answer {
 pub struct Ticked {
     pub machine: Machine,
     pub answer: Answer,
-}
-
-// What a tick's first pass found so far: the state is good; the first of refusals 10 to 13; how many jobs run and what they hold, and
-// how many of them go on running after step 2, and what those hold.
-struct Look {
-    good: bool,
-    refused: Refusal,
-    running: u32,
-    held: u64,
-    stays: u32,
-    busy: u64,
-}
-
-// What the entries past n have, put together: a zero row and a zero job where all are.
-struct Past {
-    row: Task,
-    job: Job,
-}
-
-// What a tick's second pass made so far: the job that it came to last; whether step 5 goes on, with how many running jobs, which
-// idle partitions and how many; and the sets to answer.
-struct Walk {
-    job: Job,
-    goes: bool,
-    running: u32,
-    idle: u64,
-    room: u32,
-    late: u32,
-    started: u32,
 }

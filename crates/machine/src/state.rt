@@ -1,18 +1,11 @@
 // Jobs, a fresh machine and set-up.
 ghost use mathlib.Core.Path.{_≡_};
-ghost use mathlib.Core.Bool.{cond};
-ghost use Prim.Native.Nat.{min, _≤_};
-ghost use Rattle.table.specs.Limits.{mostTasks, mostPartitions};
-ghost use Rattle.table.specs.Tasks.{C};
 ghost use Rattle.machine.specs.Jobs.{isIdle, isWaiting, isRunning, noJob};
 ghost use Rattle.machine.specs.Fresh.{trimmed, fresh, setUp};
-ghost use Rattle.machine.specs.Conditions.{hasNothing, idlesWell, runsWell, goodJob};
-ghost use Rattle.machine.specs.Passes.{isLeft};
 use crate::Job;
 use crate::Machine;
 use crate::SetUp;
 use crate::Stage;
-use table::Partitions;
 use table::Table;
 use table::Task;
 
@@ -40,17 +33,10 @@ impl Stage {
     {
         self.0 == 2
     }
-
-    // 1 for a job that runs.
-    pub(crate) fn runs(self) -> u32
-        ensures { λ r. ⌜ r ≡ cond (isRunning self) 1 0 ⌝ }
-    {
-        if self.0 == 2 { 1 } else { 0 }
-    }
 }
 
 impl Job {
-    pub(crate) fn none() -> Job
+    pub fn none() -> Job
         ensures { λ r. ⌜ r ≡ noJob ⌝ }
     {
         Job {
@@ -60,87 +46,13 @@ impl Job {
             held: 0,
         }
     }
-
-    // Task k idles and is not in the set: a tick that names only the tasks of the set adds 1 to its age, and changes nothing else.
-    pub(crate) fn is_left(self, x: u32, k: usize) -> bool
-        ensures { λ r. ⌜ r ≡ isLeft self x k ⌝ }
-    {
-        if !self.stage.is_idle() {
-            return false;
-        }
-        !sets::has_task(x, k)
-    }
-
-    // It holds no partition and has run 0, as is asked of a waiting job.
-    fn has_nothing(self) -> bool
-        ensures { λ r. ⌜ r ≡ hasNothing self ⌝ }
-    {
-        if self.held != 0 {
-            return false;
-        }
-        self.ran == 0
-    }
-
-    // What is asked of an idle job.
-    fn idles_well(self) -> bool
-        ensures { λ r. ⌜ r ≡ idlesWell self ⌝ }
-    {
-        if !self.has_nothing() {
-            return false;
-        }
-        1 <= self.age
-    }
-
-    // What is asked of a running job, of a task whose C is 1 or more, on a cache of p partitions.
-    fn runs_well(self, p: Partitions, task: Task) -> bool
-        requires { ⌜ (p .0 ≤ mostPartitions) × (1 ≤ C task) ⌝ }
-        ensures { λ r. ⌜ r ≡ runsWell (p .0) task self ⌝ }
-    {
-        if task.c <= self.ran {
-            return false;
-        }
-        if self.age < self.ran {
-            return false;
-        }
-        if sets::size(self.held) != task.a.0 {
-            return false;
-        }
-        sets::without(self.held, sets::below(p.0)) == 0
-    }
-
-    // What is asked of the job of a task, on a cache of p partitions.
-    pub(crate) fn is_good(self, p: Partitions, task: Task) -> bool
-        requires { ⌜ (p .0 ≤ mostPartitions) × (1 ≤ C task) ⌝ }
-        ensures { λ r. ⌜ r ≡ goodJob (p .0) task self ⌝ }
-    {
-        if task.t < self.age {
-            return false;
-        }
-        if self.stage.is_running() {
-            return self.runs_well(p, task);
-        }
-        if self.stage.is_idle() {
-            return self.idles_well();
-        }
-        if self.stage.is_waiting() {
-            return self.has_nothing();
-        }
-        false
-    }
-}
-
-// How many entries tasks 1 to n have: a refused table may say more than there are.
-pub(crate) fn entries(n: usize) -> usize
-    ensures { λ r. ⌜ r ≡ min n mostTasks ⌝ }
-{
-    if n < Table::MOST { n } else { Table::MOST }
 }
 
 // The rows of tasks 1 to n, and zero past n.
 fn trimmed_rows(t: Table) -> [Task; Table::MOST]
     ensures { λ r. ⌜ r ≡ trimmed t .rows ⌝ }
 {
-    let n = entries(t.n);
+    let n = Table::entries(t.n);
     let mut rows = [Task::none(); Table::MOST];
     let mut i: usize = 0;
     while i < n {
@@ -154,7 +66,7 @@ fn trimmed_rows(t: Table) -> [Task; Table::MOST]
 fn fresh_jobs(t: Table) -> [Job; Table::MOST]
     ensures { λ r. ⌜ r ≡ fresh t .jobs ⌝ }
 {
-    let n = entries(t.n);
+    let n = Table::entries(t.n);
     let mut jobs = [Job::none(); Table::MOST];
     let mut i: usize = 0;
     while i < n {

@@ -10,7 +10,9 @@ use borrow.Author.Tests.{le-leb, lt-leb}
 use lib.Dec.{leb}
 use lib.ListN.{length, getD, set}
 use lib.Seq.{ext-getD}
+use Rattle.maths.specs.Padded.{padded}
 use Rattle.maths.specs.Tasks.{tabulate, entry}
+use Rattle.maths.proofs.Padded.{length-padded, getD-padded}
 use Rattle.maths.proofs.Tasks.{length-tabulate, getD-tabulate, set-tabulate}
 
 -- only the entries of tasks 1 to n count
@@ -24,6 +26,12 @@ pub tabulate-entry : {X : Type 0} (l : List X) (n : ℕ) (d : X) → length l �
 tabulate-entry l n d e =
     ext-getD d _ l (length-tabulate (λ k. entry l k d) n ∙ sym e)
     (λ i m. getD-tabulate (λ k. entry l k d) n i d (omega (arith, length-tabulate (λ k. entry l k d) n)))
+
+-- the entries of an array that holds the first n of a list
+pub padded-entries : {X : Type 0} (d : X) (n : ℕ) (xs : List X) → padded n d xs ≡ tabulate n (λ k. entry xs k d)
+padded-entries d n xs =
+    sym (tabulate-entry (padded n d xs) n d (length-padded d n xs))
+    ∙ tabulate-ext (λ k. entry (padded n d xs) k d) (λ k. entry xs k d) n (λ i l. getD-padded d n xs i l)
 
 -- after i turns of a loop: f's entries for tasks 1 to i, and still g's for the others
 abbrev pub upTo : {X : Type 0} → ℕ → (ℕ → X) → (ℕ → X) → ℕ → List X

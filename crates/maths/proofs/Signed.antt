@@ -14,7 +14,7 @@ use mir.Facts.{toZ-pos, toZ-ofZ}
 small-pos : (a : ℕ) → a < 2 ^ 62 → toZ w64 a ≡ pos a
 small-pos a h = toZ-pos w64 (lt-trans h (lit< tt))
 
-sub-mag : (a b : ℕ) → a < 2 ^ 62 → b < 2 ^ 62 → mag (pos a -ℤ pos b) < 2 ^ 63
+pub sub-mag : (a b : ℕ) → a < 2 ^ 62 → b < 2 ^ 62 → mag (pos a -ℤ pos b) < 2 ^ 63
 sub-mag a zero p q = omega arith
 sub-mag a (suc b) p q = split (ltb a (suc b)) refl
   where

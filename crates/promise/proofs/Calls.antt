@@ -14,7 +14,7 @@ use Rattle.promise.proofs.Test.{not-refused}
 use Rattle.promise.proofs.Demand3.{demand-3}
 
 -- what ticks return is the sequence
-are-steps : {m : Machine} {xs : List Report} {rs : List Ticked} → Ticks m xs rs → returned xs rs ≡ steps m xs
+pub are-steps : {m : Machine} {xs : List Report} {rs : List Ticked} → Ticks m xs rs → returned xs rs ≡ steps m xs
 unfolding steps
 are-steps none = refl
 are-steps (call e c) = rw (are-steps c, e)

@@ -44,7 +44,7 @@ module _ (t : Table) (a : Safe t) (xs : List Report) where
         (conducts t a xs i l .moves k p q)
 
   first : Each (t .n) (λ k. lives s 0 k ≡ idle (rows t k .T))
-  first = each (t .n) _ (λ i l. ap life (fresh-job t i (omega (arith, good-table t a .few)) l))
+  first = each (t .n) _ (λ i l. ap life (fresh-job t i (omega (arith, good-table t a .sizes .few)) l))
 
   abbrev pub style : Style (t .n) (rows t) (tops t)
   style = base (sound t a) (λ k p q. le-refl (tops t k)) (a .weighed)

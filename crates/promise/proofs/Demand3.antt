@@ -70,14 +70,14 @@ module _ (t : Table) (a : Safe t) (xs : List Report) where
       }))
 
   few : (i : ℕ) → i ≤ count s → state s i .table .n ≤ mostTasks
-  few i l = sound t a xs i l .good .table .few
+  few i l = sound t a xs i l .good .table .sizes .few
 
   never-late : (i : ℕ) → i < count s → tickAt s i .answer .late ≡ 0
   never-late i l =
       let f = follows t a xs i l in
       let st = tickAt s i in
       ap (λ (r : Answer). r .late) (f .answer)
-      ∙ (tick-late (state s i) (st .report .released) (st .report .finished) (f .unrefused)
+      ∙ (tick-late (state s i) (st .report .released) (st .report .finished) (f .taken)
       ∙ no-late (state s i) (few i (omega arith)) (timely i (omega arith)) (st .report .finished))
 
   never-13 : (i : ℕ) → i ≤ count s → (x : Report) → told (state s i) x .answer .refused .number ≢ 13

@@ -18,7 +18,7 @@ accepts-is m x = ap (λ (r : Refusal). eqb (r .number) 0) (tick-refusal m (x .re
 
 -- a tick from state m
 pub record Follows (m : Machine) (st : Step) : Type 0 where
-  pub unrefused : accepted m (st .report .released) (st .report .finished) ≡ true
+  pub taken : accepted m (st .report .released) (st .report .finished) ≡ true
   pub answer : st .answer ≡ told m (st .report) .answer
   pub after : st .after ≡ told m (st .report) .machine
 
@@ -40,7 +40,7 @@ following m (x ∷ xs) = by (accepts (told m x .answer)) refl (following (told m
     by : (b : Bool) → accepts (told m x .answer) ≡ b → Following (told m x .machine) (steps (told m x .machine) xs)
         → Following m (counted b (step x (told m x)) (steps (told m x .machine) xs))
     by true e rest =
-        one-more m (step x (told m x)) (steps (told m x .machine) xs) (record { unrefused = sym (accepts-is m x) ∙ e; answer = refl; after = refl }) rest
+        one-more m (step x (told m x)) (steps (told m x .machine) xs) (record { taken = sym (accepts-is m x) ∙ e; answer = refl; after = refl }) rest
     by false e rest =
         let same : told m x .machine ≡ m = tick-refused m (x .released) (x .finished) (sym (accepts-is m x) ∙ e) in
         subst (λ (z : Machine). Following z (steps (told m x .machine) xs)) same rest

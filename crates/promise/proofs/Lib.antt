@@ -11,4 +11,3 @@ pub mod Times
 pub mod Demand3
 pub mod Time
 pub mod Calls
-pub mod Contracts

@@ -44,7 +44,7 @@ module _ (t : Table) (safe : Safe t) where
   -- the four numbers of a task
   pub same-row : Each (t .n) (λ k. rows (trimmed t) k ≡ rows t k)
   unfolding fresh
-  same-row = each (t .n) _ (λ i l. ap row (fresh-task t i (omega (arith, good-table .few)) l))
+  same-row = each (t .n) _ (λ i l. ap row (fresh-task t i (omega (arith, good-table .sizes .few)) l))
 
   pub same-top : Each (t .n) (λ k. tops (trimmed t) k ≡ tops t k)
   same-top k p q = ap (λ (r : Row). r .T) (same-row k p q)

@@ -25,7 +25,7 @@ step-conduct t m st same f =
     let long : length (m .table .rows) ≡ mostTasks = rw same (length-tabulate _ mostTasks) in
     rw (f .after, f .answer)
     (subst (λ (u : Table). Conduct u m (told m (st .report) .machine) (st .report .released) (st .report .finished) (told m (st .report) .answer .started)) same
-    (conduct m (st .report .released) (st .report .finished) long (f .unrefused)))
+    (conduct m (st .report .released) (st .report .finished) long (f .taken)))
 
 module _ (t : Table) (a : Safe t) (xs : List Report) where
   abbrev s : Sequence

@@ -5,10 +5,10 @@ use mathlib.Core.Bool.{Bool, true, false, true≢false}
 use borrow.Author.Tests.{eqb-true, ltb-true}
 use Rattle.maths.proofs.Tasks.{each, every-holds}
 use Rattle.table.specs.declared.Table.{Table}
-use Rattle.table.specs.Refused.{refusal}
+use Rattle.table.specs.Refused.{refusal, unrefused}
 use Rattle.table.specs.Tasks.{M, τ, A}
 use Rattle.admission.specs.Test.{B, interference, weight, load, limit, passes}
-use Rattle.admission.specs.Answers.{unrefused, quickAnswer}
+use Rattle.admission.specs.Answers.{quickAnswer}
 use Rattle.admission.proofs.Laws.{passes-is}
 use Rattle.lives.proofs.Weights.{full-weight}
 use Rattle.promise.specs.Promise.{Admitted}

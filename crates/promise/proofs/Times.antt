@@ -25,7 +25,7 @@ use Rattle.lives.specs.Report.{Row}
 use Rattle.lives.specs.Life.{Life, Sound, WithinC, OnTime}
 use Rattle.lives.proofs.OnTime as on-time
 use Rattle.conduct.specs.Lives.{life}
-use Rattle.conduct.proofs.Accepted.{never-13}
+use Rattle.machine.proofs.Accepted.{never-13}
 use Rattle.conduct.proofs.Lives.{one-true, shows, life-older, finished-staged, life-finished}
 use Rattle.promise.proofs.Bits.{unfinished}
 

@@ -1,5 +1,5 @@
 -- The promise about what the functions return. By their contracts `quick_answer(t)` returns `quickAnswer t`, `set_up(old, t)` returns `setUp old t` and
--- `m.tick(released, finished)` returns `tick m released finished`. Whoever is told that the table is admitted, sets up and goes on from what each tick
+-- `ticked(m, released, finished)` returns `tick m released finished`. Whoever is told that the table is admitted, sets up and goes on from what each tick
 -- returns, over whatever machine was there before, sees the promise kept in the very values that were returned.
 use mathlib.Core.Path.{_≡_}
 use mathlib.Core.Bool.{true}

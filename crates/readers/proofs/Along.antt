@@ -13,14 +13,15 @@ use lib.Dec.{eqb}
 use lib.ListN.{length, drop, getD, drop-of-length-le, length-drop}
 use lib.Seq.{drop-cons}
 use Rattle.forms.specs.Bytes.{comma}
-use Rattle.forms.specs.Forms.{Form, largest, crlf}
+use Rattle.forms.specs.Forms.{Form, crlf}
 use Rattle.forms.specs.Reads.{Answer, found, refused}
 use Rattle.forms.specs.Reader.{run, later, ended, keep, grow, State, word, cell, step, rowsAt, start, read}
+use Rattle.forms.proofs.Grow.{grown}
 use Rattle.forms.proofs.Runs.{stuck, moves}
 use Rattle.readers.specs.declared.Number.{Number}
 use Rattle.readers.specs.Places.{agreeFrom, agreeAt, numberFrom, numberAt}
 use Rattle.readers.proofs.Places.{agree-short, agree-other, agree-more, halts, goes, number-short, number-end}
-use Rattle.readers.proofs.Rows.{number-low}
+use Rattle.readers.proofs.Rows.{number-bounded}
 
 later-later : (m n : ℕ) (x : Answer (List (List ℕ))) → later m (later n x) ≡ later (m + n) x
 later-later m n (found rows) = refl
@@ -108,65 +109,66 @@ module _ (F : Form) (text : List ℕ) where
       go (no g) known = word-short rows b w at (omega arith)
 
   -- a number
-  pub record Numbered (at : ℕ) (rows : List (List ℕ)) (ns cs : List ℕ) (v : Option ℕ) (n next : ℕ) : Type 0 where
-    pub on : from at (cell rows ns largest cs v) ≡ from next (cell rows ns largest cs (some n))
-    pub stops : next < length text → grow largest (some n) (getD text next 0) ≡ none
+  pub record Numbered (at : ℕ) (rows : List (List ℕ)) (ns : List ℕ) (m : ℕ) (cs : List ℕ) (v : Option ℕ) (n next : ℕ) : Type 0 where
+    pub on : from at (cell rows ns m cs v) ≡ from next (cell rows ns m cs (some n))
+    pub stops : next < length text → grow m (some n) (getD text next 0) ≡ none
 
-  module _ (rows : List (List ℕ)) (ns cs : List ℕ) where
+  module _ (rows : List (List ℕ)) (ns : List ℕ) (m : ℕ) (cs : List ℕ) where
     abbrev pub NumberedBy : ℕ → Option ℕ → Number → Type 0
-    NumberedBy at v x = Numbered at rows ns cs v (x .value) (x .next)
+    NumberedBy at v x = Numbered at rows ns m cs v (x .value) (x .next)
 
-    grow-step : (v : Option ℕ) (c w : ℕ) → grow largest v c ≡ some w → step F (cell rows ns largest cs v) c ≡ some (cell rows ns largest cs (some w))
+    grow-step : (v : Option ℕ) (c w : ℕ) → grow m v c ≡ some w → step F (cell rows ns m cs v) c ≡ some (cell rows ns m cs (some w))
     unfolding step
     grow-step v c w e = rw e
 
-    number-on : (at : ℕ) (v : Option ℕ) (w : ℕ) → at < length text → grow largest v (getD text at 0) ≡ some w
-        → NumberedBy (suc at) (some w) (numberFrom (suc at) (some w) (drop (suc at) text)) → NumberedBy at v (numberFrom at v (drop at text))
+    number-on : (at : ℕ) (v : Option ℕ) (w : ℕ) → at < length text → grow m v (getD text at 0) ≡ some w
+        → NumberedBy (suc at) (some w) (numberFrom m (suc at) (some w) (drop (suc at) text)) → NumberedBy at v (numberFrom m at v (drop at text))
     number-on at v w l e h =
-        rw (goes text at l v w e, add-one)
-        (record { on = move at (cell rows ns largest cs v) (cell rows ns largest cs (some w)) l (grow-step v (getD text at 0) w e) ∙ h .on; stops = h .stops })
+        rw (goes m text at l v w e, add-one)
+        (record { on = move at (cell rows ns m cs v) (cell rows ns m cs (some w)) l (grow-step v (getD text at 0) w e) ∙ h .on; stops = h .stops })
 
-    number-from : (k at v : ℕ) → length text ≤ k + at → NumberedBy at (some v) (numberFrom at (some v) (drop at text))
-    number-from zero at v h = rw (number-end text at v (omega arith)) (record { on = refl; stops = λ l. absurd (no l h) })
+    number-from : (k at v : ℕ) → length text ≤ k + at → NumberedBy at (some v) (numberFrom m at (some v) (drop at text))
+    number-from zero at v h = rw (number-end m text at v (omega arith)) (record { on = refl; stops = λ l. absurd (no l h) })
       where
         no : at < length text → length text ≤ 0 + at → ⊥
         no l h = omega arith
     number-from (suc k) at v h = go (decLt at (length text)) (λ w. number-from k (suc at) w (omega arith))
       where
-        test : (o : Option ℕ) → grow largest (some v) (getD text at 0) ≡ o → at < length text
-            → ((w : ℕ) → NumberedBy (suc at) (some w) (numberFrom (suc at) (some w) (drop (suc at) text)))
-            → NumberedBy at (some v) (numberFrom at (some v) (drop at text))
-        test none e l known = rw (halts text at l (some v) e) (record { on = refl; stops = λ l. e })
+        test : (o : Option ℕ) → grow m (some v) (getD text at 0) ≡ o → at < length text
+            → ((w : ℕ) → NumberedBy (suc at) (some w) (numberFrom m (suc at) (some w) (drop (suc at) text)))
+            → NumberedBy at (some v) (numberFrom m at (some v) (drop at text))
+        test none e l known = rw (halts m text at l (some v) e) (record { on = refl; stops = λ l. e })
         test (some w) e l known = number-on at (some v) w l e (known w)
 
-        go : Dec (at < length text) → ((w : ℕ) → NumberedBy (suc at) (some w) (numberFrom (suc at) (some w) (drop (suc at) text)))
-            → NumberedBy at (some v) (numberFrom at (some v) (drop at text))
-        go (yes l) known = test (grow largest (some v) (getD text at 0)) refl l known
-        go (no g) known = rw (number-end text at v (omega arith)) (record { on = refl; stops = λ l. absurd (g l) })
+        go : Dec (at < length text) → ((w : ℕ) → NumberedBy (suc at) (some w) (numberFrom m (suc at) (some w) (drop (suc at) text)))
+            → NumberedBy at (some v) (numberFrom m at (some v) (drop at text))
+        go (yes l) known = test (grow m (some v) (getD text at 0)) refl l known
+        go (no g) known = rw (number-end m text at v (omega arith)) (record { on = refl; stops = λ l. absurd (g l) })
 
     pub data Begun (at : ℕ) : Type 0 where
-      nothing : numberAt text at .next ≡ at → from at (cell rows ns largest cs none) ≡ refused at → Begun at
-      number : (numberAt text at .next ≡ at → ⊥) → NumberedBy at none (numberAt text at) → Begun at
+      nothing : numberAt m text at .next ≡ at → from at (cell rows ns m cs none) ≡ refused at → Begun at
+      number : (numberAt m text at .next ≡ at → ⊥) → NumberedBy at none (numberAt m text at) → Begun at
 
-    none-step : (c : ℕ) → grow largest none c ≡ none → step F (cell rows ns largest cs none) c ≡ none
+    none-step : (c : ℕ) → grow m none c ≡ none → step F (cell rows ns m cs none) c ≡ none
     unfolding step
     none-step c e = rw e
 
     begun-short : (at : ℕ) → length text ≤ at → Begun at
     unfolding rowsAt
     begun-short at h =
-        nothing (ap (λ (x : Number). x .next) (number-short text at h)) (short at (cell rows ns largest cs none) h ∙ ap refused (add-zero at))
+        nothing (ap (λ (x : Number). x .next) (number-short m text at h)) (short at (cell rows ns m cs none) h ∙ ap refused (add-zero at))
 
     pub begun : (at : ℕ) → Begun at
     begun at = go (decLt at (length text))
       where
-        test : (o : Option ℕ) → grow largest none (getD text at 0) ≡ o → at < length text → Begun at
+        test : (o : Option ℕ) → grow m none (getD text at 0) ≡ o → at < length text → Begun at
         test none e l =
-            nothing (ap (λ (x : Number). x .next) (halts text at l none e)) (halt at (cell rows ns largest cs none) l (none-step (getD text at 0) e))
+            nothing (ap (λ (x : Number). x .next) (halts m text at l none e)) (halt at (cell rows ns m cs none) l (none-step (getD text at 0) e))
         test (some w) e l =
-            let far : suc at ≤ numberAt text at .next = rw (goes text at l none w e, add-one) (number-low (suc at) (some w) (drop (suc at) text)) in
+            let fits : w ≤ m = (rw e at (grown m none (getD text at 0))) .fits in
+            let far : suc at ≤ numberAt m text at .next = rw (goes m text at l none w e, add-one) (number-bounded m (suc at) (some w) (drop (suc at) text) fits .low) in
             number (λ f. omega arith) (number-on at none w l e (number-from (length text) (suc at) w (omega arith)))
 
         go : Dec (at < length text) → Begun at
-        go (yes l) = test (grow largest none (getD text at 0)) refl l
+        go (yes l) = test (grow m none (getD text at 0)) refl l
         go (no g) = begun-short at (omega arith)

@@ -17,15 +17,15 @@ use Rattle.forms.specs.Forms.{tasksForm, crlf}
 use Rattle.forms.specs.Reads.{refused}
 use Rattle.forms.specs.Reader.{read}
 use Rattle.readers.specs.declared.Row.{Row}
-use Rattle.readers.specs.Inputs.{taskOf, tableOf, tableRead}
-use Rattle.readers.specs.Places.{agreeAt, rowAt}
+use Rattle.readers.specs.Inputs.{taskOf, tableRead}
+use Rattle.readers.specs.Places.{agreeAt, mostColumns, rowAt}
 use Rattle.readers.proofs.Cells.{RowOn}
-use Rattle.readers.proofs.Texts.{Line, Many, line-start, line-end, line-bad, line-row, line-next}
+use Rattle.readers.proofs.Texts.{Line, line-start, line-end, line-bad, line-row, line-next}
 
-same-task : (numbers row : List ℕ) → numbers ≡ padded 4 0 row → taskOf numbers ≡ taskOf row
+same-task : (numbers row : List ℕ) → numbers ≡ padded mostColumns 0 row → taskOf numbers ≡ taskOf row
 same-task numbers row e =
     ap taskOf e
-    ∙ rw (getD-padded 0 4 row 0 (lit< tt), getD-padded 0 4 row 1 (lit< tt), getD-padded 0 4 row 2 (lit< tt), getD-padded 0 4 row 3 (lit< tt))
+    ∙ rw (getD-padded 0 mostColumns row 0 (lit< tt), getD-padded 0 mostColumns row 1 (lit< tt), getD-padded 0 mostColumns row 2 (lit< tt), getD-padded 0 mostColumns row 3 (lit< tt))
 
 module _ (kept : List Task) (rows : List (List ℕ)) (n : ℕ) where
   keep-more : (task : Task) (row : List ℕ) → n ≡ length rows → kept ≡ padded mostTasks noTask (map taskOf rows) → n < mostTasks → task ≡ taskOf row
@@ -45,9 +45,6 @@ module _ (kept : List Task) (rows : List (List ℕ)) (n : ℕ) where
       ∙ sym
       (ap (padded mostTasks noTask) (map-append taskOf rows (row ∷ [])) ∙ padded-full noTask mostTasks (map taskOf rows) (taskOf row ∷ []) (omega arith))
 
-tasks-many : Many tasksForm 3
-tasks-many = record { many = refl; first = refl; others = refl }
-
 -- at a line's beginning, with the tasks that are kept
 pub record Here (text : List ℕ) (at : ℕ) (kept : List Task) (n : ℕ) : Type 0 where
   pub rows : List (List ℕ)
@@ -56,28 +53,27 @@ pub record Here (text : List ℕ) (at : ℕ) (kept : List Task) (n : ℕ) : Type
 
 pub here-start : (text : List ℕ) (k : ℕ) → k ≡ agreeAt text 0 (tasksForm .header ++ crlf) → 9 ≤ k → Here text k (replicate mostTasks noTask) 0
 here-start text k e h =
-    record { rows = []; line = line-start tasksForm 3 tasks-many text k e h; keeps = sym (padded-none noTask mostTasks) }
+    record { rows = []; line = line-start tasksForm refl text k e h; keeps = sym (padded-none noTask mostTasks) }
 
 module _ (text : List ℕ) (at : ℕ) (kept : List Task) (n : ℕ) (h : Here text at kept n) where
   pub here-end : (platform : Platform) → length text ≤ at
       → tableRead platform (read tasksForm text) ≡ record { refused = noRefusal; table = record { platform = platform; n = n; rows = kept } }
-  unfolding tableOf
-  here-end platform l = ap (tableRead platform) (line-end tasksForm 3 tasks-many text (h .rows) at n (h .line) l) ∙ rw (h .line .count, h .keeps)
+  here-end platform l = ap (tableRead platform) (line-end tasksForm refl text (h .rows) at n (h .line) l) ∙ rw (h .line .count, h .keeps, length-map (h .rows) taskOf)
 
-  module _ (less : at < length text) (x : Row) (e : x ≡ rowAt text at 4) where
+  module _ (less : at < length text) (x : Row) (e : x ≡ rowAt text at tasksForm) where
     pub here-bad : x .whole ≡ false → read tasksForm text ≡ refused (x .next)
-    here-bad f = line-bad tasksForm 3 tasks-many text (h .rows) at n (h .line) less x e f
+    here-bad f = line-bad tasksForm refl text (h .rows) at n (h .line) less x e f
 
     module _ (f : x .whole ≡ true) where
-      row-on : RowOn tasksForm text (h .rows) [] 3 at x
-      row-on = line-row tasksForm 3 tasks-many text (h .rows) at n (h .line) less x e f
+      row-on : RowOn tasksForm text (h .rows) [] (tasksForm .first) (tasksForm .others) at x
+      row-on = line-row tasksForm refl text (h .rows) at n (h .line) less x e f
 
       pub here-far : at < x .next
       here-far = row-on .far
 
       next-line : Line tasksForm text (h .rows ++ (row-on .row ∷ [])) (x .next) (n + 1)
       unfolding row-on
-      next-line = line-next tasksForm 3 tasks-many text (h .rows) at n (h .line) less x e f
+      next-line = line-next tasksForm refl text (h .rows) at n (h .line) less x e f
 
       pub here-kept : n < mostTasks → (task : Task) → task ≡ taskOf (x .numbers) → Here text (x .next) (set kept n task) (n + 1)
       here-kept room task t =

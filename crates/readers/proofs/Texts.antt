@@ -6,11 +6,11 @@ use mathlib.Core.List.{List, [], _∷_, _++_}
 use mathlib.Core.Option.{none}
 use native.Mathlib.Omega.{arith}
 use native.Mathlib.Nat.{zero-add, add-zero}
-use lib.ListN.{length, getD, replicate, length-append}
+use lib.ListN.{length, getD, length-append}
 use Rattle.maths.specs.Padded.{padded}
-use Rattle.forms.specs.Forms.{Form, largest, crlf}
+use Rattle.forms.specs.Forms.{Form, columns, crlf}
 use Rattle.forms.specs.Reads.{Answer, found, refused}
-use Rattle.forms.specs.Reader.{later, word, cell, mayBegin, mayEnd, step, rowsAt, read}
+use Rattle.forms.specs.Reader.{later, State, word, cell, mayBegin, mayEnd, step, rowsAt, read}
 use Rattle.readers.specs.declared.Row.{Row}
 use Rattle.readers.specs.Places.{agreeAt, rowAt}
 use Rattle.readers.proofs.Rows.{agree-most, agree-inside, row-inside}
@@ -56,33 +56,37 @@ module _ (F : Form) (text : List ℕ) where
   unfolding step
   closed rows at e l = halt F text at (word rows []) l (rw e)
 
-  module _ (left : ℕ) (first : F .first ≡ largest) (others : F .others ≡ replicate left largest) (rows : List (List ℕ)) (at : ℕ) where
-    begin-step : mayBegin (F .one) rows ≡ true → (c : ℕ) → step F (word rows []) c ≡ step F (cell rows [] largest (replicate left largest) none) c
+  module _ (rows : List (List ℕ)) (at : ℕ) where
+    -- a row's first number
+    abbrev pub opening : State
+    opening = cell rows [] (F .first) (F .others) none
+
+    begin-step : mayBegin (F .one) rows ≡ true → (c : ℕ) → step F (word rows []) c ≡ step F opening c
     unfolding step
-    begin-step e c = rw (e, first, others)
+    begin-step e c = rw e
 
     -- a row begins where the text goes on, or where it may not end
-    pub begins : mayBegin (F .one) rows ≡ true → at < length text → from F text at (word rows []) ≡ from F text at (cell rows [] largest (replicate left largest) none)
-    begins e l = alike-inside F text at (word rows []) (cell rows [] largest (replicate left largest) none) l (begin-step e (getD text at 0))
+    pub begins : mayBegin (F .one) rows ≡ true → at < length text → from F text at (word rows []) ≡ from F text at opening
+    begins e l = alike-inside F text at (word rows []) opening l (begin-step e (getD text at 0))
 
-    pub must-begin : mayBegin (F .one) rows ≡ true → mayEnd (F .one) rows ≡ false → from F text at (word rows []) ≡ from F text at (cell rows [] largest (replicate left largest) none)
+    pub must-begin : mayBegin (F .one) rows ≡ true → mayEnd (F .one) rows ≡ false → from F text at (word rows []) ≡ from F text at opening
     unfolding rowsAt
-    must-begin e f = alike F text at (word rows []) (cell rows [] largest (replicate left largest) none) (rw f) (λ l. begin-step e (getD text at 0))
+    must-begin e f = alike F text at (word rows []) opening (rw f) (λ l. begin-step e (getD text at 0))
 
-  module _ (left : ℕ) (rows : List (List ℕ)) (at : ℕ) (x : Row) (e : x ≡ rowAt text at (suc left)) where
-    pub row-good : x .whole ≡ true → RowOn F text rows [] left at x
-    row-good h = go (rw (← e) at (rowed F text rows left [] at))
-      where
-        go : Rowed F text rows [] left at x → RowOn F text rows [] left at x
-        go (Cells.whole f r) = r
-        go (Cells.part f r) = not-both (x .whole) h f
+    module _ (x : Row) (e : x ≡ rowAt text at F) where
+      pub row-good : x .whole ≡ true → RowOn F text rows [] (F .first) (F .others) at x
+      row-good h = go (rw (← e) at (rowed F text rows (F .first) (F .others) [] at))
+        where
+          go : Rowed F text rows [] (F .first) (F .others) at x → RowOn F text rows [] (F .first) (F .others) at x
+          go (Cells.whole f r) = r
+          go (Cells.part f r) = not-both (x .whole) h f
 
-    pub row-bad : x .whole ≡ false → from F text at (cell rows [] largest (replicate left largest) none) ≡ refused (x .next)
-    row-bad h = go (rw (← e) at (rowed F text rows left [] at))
-      where
-        go : Rowed F text rows [] left at x → from F text at (cell rows [] largest (replicate left largest) none) ≡ refused (x .next)
-        go (Cells.whole f r) = not-both (x .whole) f h
-        go (Cells.part f r) = r
+      pub row-bad : x .whole ≡ false → from F text at opening ≡ refused (x .next)
+      row-bad h = go (rw (← e) at (rowed F text rows (F .first) (F .others) [] at))
+        where
+          go : Rowed F text rows [] (F .first) (F .others) at x → from F text at opening ≡ refused (x .next)
+          go (Cells.whole f r) = not-both (x .whole) f h
+          go (Cells.part f r) = r
 
 -- at a line's beginning, where these n rows have come and any number may
 pub record Line (F : Form) (text : List ℕ) (rows : List (List ℕ)) (at n : ℕ) : Type 0 where
@@ -91,13 +95,7 @@ pub record Line (F : Form) (text : List ℕ) (rows : List (List ℕ)) (at n : �
   pub inside : at ≤ length text
   pub few : n ≤ at
 
--- forms of so many columns beyond the first, with any number of rows
-pub record Many (F : Form) (left : ℕ) : Type 0 where
-  pub many : F .one ≡ false
-  pub first : F .first ≡ largest
-  pub others : F .others ≡ replicate left largest
-
-module _ (F : Form) (left : ℕ) (shape : Many F left) (text : List ℕ) where
+module _ (F : Form) (many : F .one ≡ false) (text : List ℕ) where
   pub line-start : (k : ℕ) → k ≡ agreeAt text 0 (F .header ++ crlf) → length (F .header ++ crlf) ≤ k → Line F text [] k 0
   line-start k e h =
       record {
@@ -109,21 +107,21 @@ module _ (F : Form) (left : ℕ) (shape : Many F left) (text : List ℕ) where
 
   module _ (rows : List (List ℕ)) (at n : ℕ) (h : Line F text rows at n) where
     pub line-end : length text ≤ at → read F text ≡ found rows
-    line-end l = h .on ∙ ends F text rows at (rw (shape .many)) l
+    line-end l = h .on ∙ ends F text rows at (rw many) l
 
-    module _ (less : at < length text) (x : Row) (e : x ≡ rowAt text at (suc left)) where
+    module _ (less : at < length text) (x : Row) (e : x ≡ rowAt text at F) where
       pub line-bad : x .whole ≡ false → read F text ≡ refused (x .next)
-      line-bad f = h .on ∙ begins F text left (shape .first) (shape .others) rows at (rw (shape .many)) less ∙ row-bad F text left rows at x e f
+      line-bad f = h .on ∙ begins F text rows at (rw many) less ∙ row-bad F text rows at x e f
 
-      pub line-row : x .whole ≡ true → RowOn F text rows [] left at x
-      line-row f = row-good F text left rows at x e f
+      pub line-row : x .whole ≡ true → RowOn F text rows [] (F .first) (F .others) at x
+      line-row f = row-good F text rows at x e f
 
       pub line-next : (f : x .whole ≡ true) → Line F text (rows ++ (line-row f .row ∷ [])) (x .next) (n + 1)
       line-next f =
           let r = line-row f in
           record {
-            on = h .on ∙ begins F text left (shape .first) (shape .others) rows at (rw (shape .many)) less ∙ r .on;
+            on = h .on ∙ begins F text rows at (rw many) less ∙ r .on;
             count = let c = h .count in simp length-append (omega arith);
-            inside = rw e (row-inside text [] (suc left) at (h .inside));
+            inside = rw e (row-inside text [] (columns F) at (h .inside));
             few = let c = h .few in let g = r .far in omega arith;
           }

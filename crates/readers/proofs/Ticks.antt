@@ -7,32 +7,29 @@ use mathlib.Core.Option.{none}
 use native.Mathlib.Omega.{arith}
 use native.Mathlib.Decide.{decLt}
 use lib.Dec.{lit<}
-use lib.ListN.{length, drop, replicate}
+use lib.ListN.{length, drop}
 use Rattle.maths.specs.Padded.{padded}
 use Rattle.maths.proofs.Padded.{getD-padded}
 use Rattle.forms.specs.Bytes.{comma}
-use Rattle.forms.specs.Forms.{largest, ticksForm, crlf}
+use Rattle.forms.specs.Forms.{largest, columns, ticksForm, crlf}
 use Rattle.forms.specs.Reads.{Answer, found, refused}
 use Rattle.forms.specs.Reader.{run, later, word, cell, step, rowsAt, read}
 use Rattle.forms.proofs.Shift.{prefixed, shift-run}
 use Rattle.readers.specs.declared.Number.{Number}
 use Rattle.readers.specs.declared.Tick.{Tick}
 use Rattle.readers.specs.Inputs.{tickOf, firstTick, tickAt}
-use Rattle.readers.specs.Places.{agreeAt, numberAt, cellAt, rowFrom, rowAt}
+use Rattle.readers.specs.Places.{agreeAt, numberAt, cellAt, mostColumns, rowFrom, rowAt}
 use Rattle.readers.proofs.Along.{from}
 use Rattle.readers.proofs.Places.{number-short}
 use Rattle.readers.proofs.Rows.{agree-most, cell-none, row-inside}
-use Rattle.readers.proofs.Texts.{Line, Many, head-bad, head-good, ends, begins, row-good, row-bad}
-
-pub ticks-many : Many ticksForm 1
-ticks-many = record { many = refl; first = refl; others = refl }
+use Rattle.readers.proofs.Texts.{Line, head-bad, head-good, ends, opening, begins, row-good, row-bad}
 
 -- from this place on, as if it were the first line, these rows
 abbrev pub Rest : List ℕ → ℕ → List (List ℕ) → Type 0
 Rest text at rows = from ticksForm text at (word [] []) ≡ found rows
 
-same-tick : (numbers row : List ℕ) → numbers ≡ padded 4 0 row → tickOf numbers ≡ tickOf row
-same-tick numbers row e = ap tickOf e ∙ rw (getD-padded 0 4 row 0 (lit< tt), getD-padded 0 4 row 1 (lit< tt))
+same-tick : (numbers row : List ℕ) → numbers ≡ padded mostColumns 0 row → tickOf numbers ≡ tickOf row
+same-tick numbers row e = ap tickOf e ∙ rw (getD-padded 0 mostColumns row 0 (lit< tt), getD-padded 0 mostColumns row 1 (lit< tt))
 
 -- a first row, and what follows it
 split : (row : List ℕ) (text : List ℕ) (at : ℕ) (rows : List (List ℕ)) → from ticksForm text at (word (row ∷ []) []) ≡ found rows
@@ -80,34 +77,34 @@ pub record TickOn (text : List ℕ) (at : ℕ) (rows : List (List ℕ)) : Type 0
 
 pub ticks-next : (text : List ℕ) (at : ℕ) (rows : List (List ℕ)) → Rest text at rows → at < length text → TickOn text at rows
 unfolding tickAt
-ticks-next text at rows e l = go (rowAt text at 2 .whole) refl
+ticks-next text at rows e l = go (rowAt text at ticksForm .whole) refl
   where
-    behind : from ticksForm text at (word [] []) ≡ from ticksForm text at (cell [] [] largest (replicate 1 largest) none)
-    behind = begins ticksForm text 1 refl refl [] at refl l
+    behind : from ticksForm text at (word [] []) ≡ from ticksForm text at (opening ticksForm text [] at)
+    behind = begins ticksForm text [] at refl l
 
-    go : (b : Bool) → rowAt text at 2 .whole ≡ b → TickOn text at rows
+    go : (b : Bool) → rowAt text at ticksForm .whole ≡ b → TickOn text at rows
     go true f =
-        let r = row-good ticksForm text 1 [] at (rowAt text at 2) refl f in
-        let s = split (r .row) text (rowAt text at 2 .next) rows (sym (r .on) ∙ sym behind ∙ e) in
+        let r = row-good ticksForm text [] at (rowAt text at ticksForm) refl f in
+        let s = split (r .row) text (rowAt text at ticksForm .next) rows (sym (r .on) ∙ sym behind ∙ e) in
         record {
           row = r .row;
           more = s .0;
           rows-are = s .1;
-          tick = same-tick (rowAt text at 2 .numbers) (r .row) (r .numbers);
+          tick = same-tick (rowAt text at ticksForm .numbers) (r .row) (r .numbers);
           far = r .far;
-          inside = row-inside text [] 2 at (omega arith);
+          inside = row-inside text [] (columns ticksForm) at (omega arith);
           rest = s .2;
         }
-    go false f = absurd (no (sym e ∙ behind ∙ row-bad ticksForm text 1 [] at (rowAt text at 2) refl f))
+    go false f = absurd (no (sym e ∙ behind ∙ row-bad ticksForm text [] at (rowAt text at ticksForm) refl f))
       where
-        no : found rows ≡ refused (rowAt text at 2 .next) → ⊥
+        no : found rows ≡ refused (rowAt text at ticksForm .next) → ⊥
         no e = let z : _≡_ {A = ℕ} 0 1 = cc in omega arith
 
 pub tick-short : (text : List ℕ) (at : ℕ) → length text ≤ at → tickAt text at ≡ record { tick = record { released = 0; finished = 0 }; next = at }
 unfolding tickAt rowFrom cellAt padded
 tick-short text at h =
-    let n : numberAt text at ≡ record { value = 0; next = at } = number-short text at h in
-    rw (cell-none text at (comma ∷ []) (ap (λ (x : Number). x .next) n))
+    let n : numberAt largest text at ≡ record { value = 0; next = at } = number-short largest text at h in
+    rw (cell-none largest text at (comma ∷ []) (ap (λ (x : Number). x .next) n))
 
 -- at a line's beginning, where n rows have come
 pub record Counted (text : List ℕ) (at n : ℕ) : Type 0 where

@@ -3,14 +3,12 @@
 use Prim.Native.Nat.{ℕ}
 use mathlib.Core.List.{List, [], _∷_, _++_, map}
 use lib.ListN.{length, getD}
-use Rattle.maths.specs.Padded.{padded}
 use Rattle.table.specs.declared.Platform.{Platform}
 use Rattle.table.specs.declared.Task.{Task}
 use Rattle.table.specs.declared.Table.{Table}
 use Rattle.table.specs.declared.Refusal.{Refusal}
-use Rattle.table.specs.Limits.{mostTasks}
 use Rattle.table.specs.Refused.{noRefusal}
-use Rattle.table.specs.Tasks.{noTask, emptyTable}
+use Rattle.table.specs.Tasks.{emptyTable, tableOf}
 use Rattle.forms.specs.Forms.{ticksForm, crlf}
 use Rattle.forms.specs.Reads.{Answer, found, refused}
 use Rattle.readers.specs.declared.PlatformRead.{PlatformRead}
@@ -29,8 +27,9 @@ platformOf row = record { cores = record { 0 = getD row 0 0 }; partitions = reco
 abbrev pub taskOf : List ℕ → Task
 taskOf row = record { d = getD row 0 0; t = getD row 1 0; c = getD row 2 0; a = record { 0 = getD row 3 0 } }
 
-unfoldable pub tableOf : Platform → List (List ℕ) → Table
-tableOf platform rows = record { platform = platform; n = length rows; rows = padded mostTasks noTask (map taskOf rows) }
+-- the table that the rows of a platform text and of a tasks text say
+abbrev pub tableFrom : List (List ℕ) → List (List ℕ) → Table
+tableFrom platform tasks = tableOf (platformOf (getD platform 0 [])) (map taskOf tasks)
 
 abbrev pub noPlatform : Platform
 noPlatform = platformOf []
@@ -41,7 +40,7 @@ platformRead (found rows) = record { refused = noRefusal; platform = platformOf 
 platformRead (refused offset) = record { refused = badText offset; platform = noPlatform }
 
 abbrev pub tableRead : Platform → Answer (List (List ℕ)) → TableRead
-tableRead platform (found rows) = record { refused = noRefusal; table = tableOf platform rows }
+tableRead platform (found rows) = record { refused = noRefusal; table = tableOf platform (map taskOf rows) }
 tableRead platform (refused offset) = record { refused = badText offset; table = emptyTable noPlatform }
 
 abbrev pub tickOf : List ℕ → Tick
@@ -57,5 +56,5 @@ firstTick = length (ticksForm .header ++ crlf)
 
 unfoldable pub tickAt : List ℕ → ℕ → TickRead
 tickAt text at =
-    let row = rowAt text at 2 in
+    let row = rowAt text at ticksForm in
     record { tick = tickOf (row .numbers); next = row .next }

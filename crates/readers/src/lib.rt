@@ -1,12 +1,16 @@
 // Readers of document 01's texts. Each reads as far as a good text could go, and says where that is.
-ghost use Prim.Native.Nat.{_≤_};
+ghost use Prim.Native.Nat.{_+_, _*_, _<_, _≤_};
 ghost use mathlib.Core.Path.{_≡_};
+ghost use mathlib.Core.Bool.{false};
+ghost use mathlib.Core.List.{[]};
+ghost use lib.Dec.{leb};
 ghost use lib.ListN.{length};
 ghost use Rattle.forms.specs.Forms.{ending, platformForm, tasksForm, ticksForm};
 ghost use Rattle.forms.specs.Reads.{refused};
 ghost use Rattle.forms.specs.Reader.{read};
 ghost use Rattle.readers.specs.Inputs.{noPlatform, taskOf, platformRead, tableRead, ticksRead, tickAt};
-ghost use Rattle.readers.specs.Places.{agreeAt, grownTo, numberAt, cellAt, rowAt};
+ghost use Rattle.readers.specs.Places.{agreeAt, numberAt, cellAt, mostColumns, rowFrom};
+ghost use Rattle.readers.specs.Code.Digits.{grownTo, Narrow};
 use table::Cores;
 use table::Partitions;
 use table::Platform;
@@ -14,26 +18,38 @@ use table::Refusal;
 use table::Table;
 use table::Task;
 
+// A number with a further digit, where that may follow.
+struct Grown {
+    may: bool,
+    value: u64,
+}
+
 // The number at a place: `next` is past it, or is the place where none begins.
 struct Number {
-    value: u32,
+    value: u64,
     next: usize,
 }
 
 // A number with what ends it; where it is not whole, `next` is the first byte that may not stand there.
 struct Cell {
-    value: u32,
+    value: u64,
     next: usize,
     whole: bool,
 }
 
-// A row of up to four numbers; where it is not whole, `next` is the first byte that may not stand there.
-pub struct Row {
-    pub numbers: [u32; 4],
-    pub next: usize,
-    pub whole: bool,
+// A row's numbers, as many as its form has columns; where it is not whole, `next` is the first byte that may not stand there.
+struct Row {
+    numbers: [u64; Row::MOST],
+    next: usize,
+    whole: bool,
 }
 
+impl Row {
+    // No form has more columns.
+    const MOST: usize = 4;
+}
+
+// The largest number of a column of 32 bits.
 const LARGEST: u64 = 4_294_967_295;
 
 // The place up to which the text agrees with the word.
@@ -56,31 +72,63 @@ fn agree_at(s: &[u8], at: usize, word: &[u8]) -> usize
     next
 }
 
-// v with a further digit, or one above the largest number where the byte is no digit.
-fn grown(v: u32, c: u8) -> u64
-    ensures { λ r. ⌜ r ≡ grownTo v c ⌝ }
+fn with_digit(most: u64, v: u64, c: u8) -> Grown
+    ensures { λ r. ⌜ r ≡ grownTo most v c ⌝ }
 {
     if c < 48 {
-        return LARGEST + 1;
+        return Grown::not();
     }
     if 57 < c {
-        return LARGEST + 1;
+        return Grown::not();
     }
-    10 * (v as u64) + ((c - 48) as u64)
+    let d = (c - 48) as u64;
+    if !has_room(most, v, d) {
+        return Grown::not();
+    }
+    Grown {
+        may: true,
+        value: 10 * v + d,
+    }
 }
 
-fn number_at(s: &[u8], at: usize) -> Number
+// Whether 10 v + d is at most the largest, asked so that nothing passes 64 bits. Most digits are told by the quotient, the same for each.
+fn has_room(most: u64, v: u64, d: u64) -> bool
+    requires { ⌜ d < 10 ⌝ }
+    ensures { λ r. ⌜ r ≡ leb (10 * v + d) most ⌝ }
+{
+    if v < most / 10 {
+        return true;
+    }
+    if most / 10 < v {
+        return false;
+    }
+    d <= most - 10 * v
+}
+
+impl Grown {
+    fn not() -> Grown
+        ensures { λ r. ⌜ r ≡ record { may = false; value = 0 } ⌝ }
+    {
+        Grown {
+            may: false,
+            value: 0,
+        }
+    }
+}
+
+// The number of a column at a place.
+fn number_at(s: &[u8], at: usize, most: u64) -> Number
     requires { ⌜ at ≤ length (now s) ⌝ }
-    ensures { λ r. ⌜ r ≡ numberAt (now (s .entry)) at ⌝ }
+    ensures { λ r. ⌜ r ≡ numberAt most (now (s .entry)) at ⌝ }
 {
     if s.len() <= at {
         return Number { value: 0, next: at };
     }
-    let first = grown(0, s[at]);
-    if LARGEST < first {
+    let first = with_digit(most, 0, s[at]);
+    if !first.may {
         return Number { value: 0, next: at };
     }
-    let mut v = first as u32;
+    let mut v = first.value;
     let mut next = at + 1;
     while next < s.len() {
         if v == 0 {
@@ -89,14 +137,14 @@ fn number_at(s: &[u8], at: usize) -> Number
                 next: next,
             };
         }
-        let w = grown(v, s[next]);
-        if LARGEST < w {
+        let more = with_digit(most, v, s[next]);
+        if !more.may {
             return Number {
                 value: v,
                 next: next,
             };
         }
-        v = w as u32;
+        v = more.value;
         next += 1;
     }
     Number {
@@ -105,12 +153,12 @@ fn number_at(s: &[u8], at: usize) -> Number
     }
 }
 
-// The number at a place, and what ends it where so many more follow in its row.
-fn cell_at(s: &[u8], at: usize, left: usize) -> Cell
+// The number of a column at a place, and what ends it where so many more follow in its row.
+fn cell_at(s: &[u8], at: usize, most: u64, left: usize) -> Cell
     requires { ⌜ at ≤ length (now s) ⌝ }
-    ensures { λ r. ⌜ r ≡ cellAt (now (s .entry)) at (ending left) ⌝ }
+    ensures { λ r. ⌜ r ≡ cellAt most (now (s .entry)) at (ending left) ⌝ }
 {
-    let x = number_at(s, at);
+    let x = number_at(s, at, most);
     let next = x.next;
     if next == at {
         return Cell {
@@ -135,19 +183,19 @@ fn cell_at(s: &[u8], at: usize, left: usize) -> Cell
     }
 }
 
-// The row at a place, of so many columns.
-fn row_at(s: &[u8], at: usize, columns: usize) -> Row
-    requires { ⌜ (at ≤ length (now s)) × (columns ≤ 4) ⌝ }
-    ensures { λ r. ⌜ r ≡ rowAt (now (s .entry)) at columns ⌝ }
+// The row at a place, of columns whose largest numbers these are.
+fn row_at(s: &[u8], at: usize, columns: &[u64]) -> Row
+    requires { ⌜ (at ≤ length (now s)) × (length (now columns) ≤ mostColumns) ⌝ }
+    ensures { λ r. ⌜ r ≡ rowFrom (now (s .entry)) [] (now (columns .entry)) at ⌝ }
 {
-    let mut numbers = [0u32; 4];
+    let mut numbers = [0u64; Row::MOST];
     let mut next = at;
     let mut j: usize = 0;
-    while j < columns {
-        let c = cell_at(s, next, columns - j - 1);
+    while j < columns.len() {
+        let c = cell_at(s, next, columns[j], columns.len() - j - 1);
         if !c.whole {
             return Row {
-                numbers: [0u32; 4],
+                numbers: [0u64; Row::MOST],
                 next: c.next,
                 whole: false,
             };
@@ -193,7 +241,8 @@ pub fn read_platform(s: &[u8]) -> PlatformRead
     if at < 18 {
         return PlatformRead::bad(at);
     }
-    let r = row_at(s, at, 2);
+    let columns = [LARGEST; 2];
+    let r = row_at(s, at, &columns);
     if !r.whole {
         return PlatformRead::bad(r.next);
     }
@@ -203,8 +252,8 @@ pub fn read_platform(s: &[u8]) -> PlatformRead
     PlatformRead {
         refused: Refusal { number: 0, row: 0 },
         platform: Platform {
-            cores: Cores(r.numbers[0]),
-            partitions: Partitions(r.numbers[1]),
+            cores: Cores(r.numbers[0] as u32),
+            partitions: Partitions(r.numbers[1] as u32),
         },
     }
 }
@@ -231,14 +280,15 @@ impl TableRead {
     }
 }
 
-fn task_of(numbers: [u32; 4]) -> Task
+fn task_of(numbers: [u64; Row::MOST]) -> Task
+    requires { ⌜ Narrow numbers ⌝ }
     ensures { λ r. ⌜ r ≡ taskOf numbers ⌝ }
 {
     Task {
-        d: numbers[0],
-        t: numbers[1],
-        c: numbers[2],
-        a: Partitions(numbers[3]),
+        d: numbers[0] as u32,
+        t: numbers[1] as u32,
+        c: numbers[2] as u32,
+        a: Partitions(numbers[3] as u32),
     }
 }
 
@@ -251,9 +301,10 @@ pub fn read_tasks(s: &[u8], platform: Platform) -> TableRead
         return TableRead::bad(at);
     }
     let mut rows = [Task::none(); Table::MOST];
+    let columns = [LARGEST; Row::MOST];
     let mut n: usize = 0;
     while at < s.len() {
-        let r = row_at(s, at, 4);
+        let r = row_at(s, at, &columns);
         if !r.whole {
             return TableRead::bad(r.next);
         }
@@ -317,9 +368,10 @@ pub fn read_ticks(s: &[u8]) -> TicksRead
     if at < Tick::FIRST {
         return TicksRead::bad(at);
     }
+    let columns = [LARGEST; 2];
     let mut n: usize = 0;
     while at < s.len() {
-        let r = row_at(s, at, 2);
+        let r = row_at(s, at, &columns);
         let next = r.next;
         if !r.whole {
             return TicksRead::bad(next);
@@ -346,11 +398,12 @@ pub fn tick_at(s: &[u8], at: usize) -> TickRead
             next: at,
         };
     }
-    let r = row_at(s, at, 2);
+    let columns = [LARGEST; 2];
+    let r = row_at(s, at, &columns);
     TickRead {
         tick: Tick {
-            released: r.numbers[0],
-            finished: r.numbers[1],
+            released: r.numbers[0] as u32,
+            finished: r.numbers[1] as u32,
         },
         next: r.next,
     }

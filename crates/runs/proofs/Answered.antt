@@ -1,5 +1,5 @@
 -- What a tick answers is below 10 ^ 20, whatever the machine: sets of at most 32 tasks, and numbers of refusals.
-use Prim.Native.Nat.{ℕ, zero, suc, _^_, _<_, _≤_}
+use Prim.Native.Nat.{ℕ, _^_, _<_, _≤_}
 use mathlib.Core.Path.{_≡_, refl, ap, _∙_}
 use mathlib.Core.Bool.{Bool, true, false, cond}
 use mathlib.Core.List.{List, [], _∷_}
@@ -21,9 +21,9 @@ use Rattle.sets.proofs.Wheres.{where-lt}
 use Rattle.machine.specs.declared.Machine.{Machine}
 use Rattle.machine.specs.declared.Ticked.{Ticked}
 use Rattle.machine.specs.Conditions.{goodState}
-use Rattle.machine.specs.Steps.{passed, finish, lateSet, firstWaiting, fits, start, startFirst, startWaiting}
-use Rattle.machine.specs.Tick.{tickRules, firstGiven, tickRefusal, readied, moved, startedSet, refusedAnswer, accepted, tick}
+use Rattle.machine.specs.Tick.{tickRules, firstGiven, tickRefusal, readied, accepted, acceptedTick, refusedTick, tick}
 use Rattle.machine.proofs.Jobs.{finished-table, readied-table}
+use Rattle.machine.proofs.Queue.{step-table}
 use Rattle.readers.specs.declared.Tick.{Tick}
 use Rattle.runs.specs.Ticks.{tickWith}
 
@@ -37,19 +37,6 @@ few-tasks t e = by (eqb (sizesRefusal t) 0) refl e
     by : (b : Bool) → eqb (sizesRefusal t) 0 ≡ b → cond b (rowsRefusal t) (record { number = sizesRefusal t; row = 0 }) .number ≡ 0 → t .n ≤ mostTasks
     by true w e = good-sizes t (eqb-true (sizesRefusal t) 0 w) .few
     by false w e = absurd (eqb-false (sizesRefusal t) 0 w e)
-
-waiting-table : (turns : ℕ) (m : Machine) → startWaiting turns m .table ≡ m .table
-unfolding startWaiting
-waiting-table zero m = refl
-waiting-table (suc turns) m = go (firstWaiting m) (waiting-table turns)
-  where
-    go : (k : ℕ) → ((x : Machine) → startWaiting turns x .table ≡ x .table) → startFirst (startWaiting turns) m k .table ≡ m .table
-    go zero same = refl
-    go (suc i) same = by (fits m (suc i))
-      where
-        by : (b : Bool) → cond b (startWaiting turns (start m i)) m .table ≡ m .table
-        by true = same (start m i)
-        by false = refl
 
 most : (b : Bool) (x y : Refusal) → x .number ≤ 14 → y .number ≤ 14 → cond b x y .number ≤ 14
 most true x y h g = h
@@ -101,23 +88,11 @@ unfolding tick
 tick-small m k h = by (accepted m (k .released) (k .finished)) refl
   where
     by : (b : Bool) → accepted m (k .released) (k .finished) ≡ b
-        → Small
-        (cond b
-        (record {
-          machine = moved m (k .released) (k .finished);
-          answer =
-              record {
-                refused = tickRefusal m (k .released) (k .finished);
-                finished = k .finished;
-                late = lateSet m (finish (k .finished) (passed m));
-                started = startedSet (readied m (k .released) (k .finished)) (moved m (k .released) (k .finished));
-              };
-        })
-        (record { machine = m; answer = refusedAnswer (tickRefusal m (k .released) (k .finished)) }))
+        → Small (cond b (acceptedTick m (k .released) (k .finished)) (refusedTick m (tickRefusal m (k .released) (k .finished))))
     by true e =
         let few : m .table .n ≤ mostTasks = good-few m (accepted-good m (k .released) (k .finished) e) in
         let number = number-most m (k .released) (k .finished) in
-        let same = ap (λ (t : Table). t .n) (waiting-table mostTasks (readied m (k .released) (k .finished)) ∙ readied-table m (k .released) (k .finished)) in
+        let same = ap (λ (t : Table). t .n) (step-table (readied m (k .released) (k .finished)) ∙ readied-table m (k .released) (k .finished)) in
         record {
           number = omega arith;
           finished = h;

@@ -1,11 +1,10 @@
 -- From what the readers and the table's judge answer back to what is written.
 use Prim.Native.Nat.{ℕ}
 use mathlib.Core.Path.{_≡_, refl, sym, ap, _∙_}
-use mathlib.Core.Bool.{Bool, true, false, cond, _&&_}
+use mathlib.Core.Bool.{Bool}
 use mathlib.Core.List.{List}
 use native.Mathlib.Omega.{arith}
 use borrow.Author.Tests.{eq-eqb, ne-eqb}
-use lib.Dec.{leb}
 use lib.ListN.{length}
 use Rattle.forms.specs.Forms.{ticksForm}
 use Rattle.forms.specs.Reads.{Answer, found, refused}
@@ -18,9 +17,10 @@ use Rattle.machine.specs.Fresh.{fresh}
 use Rattle.readers.specs.declared.TicksRead.{TicksRead}
 use Rattle.readers.specs.Inputs.{ticksRead}
 use Rattle.writers.specs.Outputs.{refusedText}
-use Rattle.texts.specs.Given.{longest, taken}
+use Rattle.texts.specs.Given.{taken}
+use Rattle.texts.proofs.Given.{taken-found}
 use Rattle.runs.specs.Ticks.{runText, ran}
-use Rattle.runs.specs.Runs.{rowsOf, CountedTicks}
+use Rattle.runs.specs.Code.Runs.{rowsOf, CountedTicks}
 
 pub ticks-bad : (x : Answer (List (List ℕ))) (k : TicksRead) (t : Table) → k ≡ ticksRead x → (k .refused .number ≡ 0 → ⊥) → ran x t ≡ refusedText (k .refused)
 ticks-bad (found rows) k t e h = absurd (h (ap (λ (q : TicksRead). q .refused .number) e))
@@ -28,20 +28,12 @@ ticks-bad (refused offset) k t e h = ap (λ (q : TicksRead). refusedText (q .ref
 
 -- a ticks text that is taken is good
 module _ (there : Bool) (text : List ℕ) where
-  same : (rows : List (List ℕ)) → taken ticksForm there text ≡ found rows → read ticksForm text ≡ found rows
-  unfolding taken
-  same rows e = go (there && leb (length text) longest) e
-    where
-      go : (b : Bool) → cond b (read ticksForm text) (refused 0) ≡ found rows → read ticksForm text ≡ found rows
-      go true e = e
-      go false e = absurd (let z : _≡_ {A = ℕ} 0 1 = cc in omega arith)
-
   pub ticks-good : (k : TicksRead) → k ≡ ticksRead (taken ticksForm there text) → k .refused .number ≡ 0 → (taken ticksForm there text ≡ read ticksForm text) × CountedTicks text (k .count)
   ticks-good k e h = go (taken ticksForm there text) refl
     where
       go : (x : Answer (List (List ℕ))) → taken ticksForm there text ≡ x → (taken ticksForm there text ≡ read ticksForm text) × CountedTicks text (k .count)
       go (found rows) f =
-          let s = same rows f in
+          let s = taken-found ticksForm there text rows f .0 in
           let all = sym (ap rowsOf s) in
           (f ∙ sym s, (s ∙ ap found all, ap (λ (q : TicksRead). q .count) (e ∙ ap ticksRead f) ∙ ap length all))
       go (refused offset) f = absurd (no (sym h ∙ ap (λ (q : TicksRead). q .refused .number) (e ∙ ap ticksRead f)))

@@ -3,3 +3,4 @@ pub mod Answers
 pub mod Determined
 pub mod Answered
 pub mod Widths
+pub mod Sizes

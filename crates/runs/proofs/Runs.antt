@@ -5,7 +5,7 @@ use mathlib.Core.Bool.{Bool, true, false, cond}
 use mathlib.Core.List.{List, [], _++_, append-assoc}
 use native.Mathlib.Omega.{arith}
 use lib.Dec.{eqb}
-use lib.ListN.{length, take}
+use lib.ListN.{length}
 use Rattle.forms.specs.Bytes.{bytes}
 use Rattle.forms.specs.Forms.{crlf, line, lines}
 use Rattle.table.specs.declared.Refusal.{Refusal}
@@ -16,7 +16,7 @@ use Rattle.readers.proofs.Ticks.{Rest, ticks-start, ticks-next, ticks-end}
 use Rattle.writers.specs.Outputs.{listing}
 use Rattle.runs.specs.declared.Run.{Run}
 use Rattle.runs.specs.Ticks.{tickWith, runRow, counted, runRows, runText}
-use Rattle.runs.specs.Runs.{ticksIn, GoodTicks, runStart, runOn}
+use Rattle.runs.specs.Code.Runs.{ticksIn, GoodTicks, runStart, runOn}
 
 abbrev pub header : List ℕ
 header = bytes "tick,refused,finished,late,started" ++ crlf
@@ -53,7 +53,7 @@ pub record Gone (text : List ℕ) (r : Run) (rows : List (List ℕ)) (x : Run) :
   pub going : Going text x more
   pub far : r .at < x .at
   pub inside : x .at ≤ length text
-  pub comes : toCome r rows ≡ line (take 5 (x .line)) ++ toCome x more
+  pub comes : toCome r rows ≡ line (x .line) ++ toCome x more
 
 pub going-on : (text : List ℕ) (r : Run) (rows : List (List ℕ)) (x : Run) → Going text r rows → r .at < length text → x ≡ runOn text r → Gone text r rows x
 unfolding lines runRows runOn

@@ -9,15 +9,15 @@ use borrow.Author.Tests.{leb-true, le-leb}
 use lib.Dec.{leb}
 use lib.ListN.{length, getD, length-append}
 use Rattle.maths.proofs.Tests.{same-truth}
-use Rattle.forms.specs.Forms.{Within, Each, none, also, columns, largest, ticksForm, line, lines}
+use Rattle.forms.specs.Forms.{Within, EachRow, none, also, columns, largest, ticksForm, line, lines}
 use Rattle.forms.proofs.Digits.{width-most}
 use Rattle.forms.proofs.Theorem.{written}
 use Rattle.machine.specs.declared.Machine.{Machine}
 use Rattle.readers.specs.Inputs.{tickOf}
 use Rattle.writers.specs.declared.Room.{Room}
 use Rattle.writers.specs.Written.{roomFor}
-use Rattle.runs.specs.Ticks.{tickWith, counted, runRows, runText}
-use Rattle.runs.specs.Runs.{ticksIn, GoodTicks, runStart}
+use Rattle.runs.specs.Ticks.{tickWith, counted, runRows, runText, listingMost}
+use Rattle.runs.specs.Code.Runs.{ticksIn, GoodTicks, runStart}
 use Rattle.runs.proofs.Runs.{header, toCome, run-split, counted-most}
 use Rattle.runs.proofs.Answered.{big, tick-small}
 
@@ -29,7 +29,7 @@ row-most a b c d e ha hb hc hd he =
 second-most : {row : List ℕ} → Within (columns ticksForm) row → getD row 1 0 ≤ largest
 second-most (also a (also b none)) = b
 
-lines-most : (rows : List (List ℕ)) (before : ℕ) (m : Machine) → before + length rows < big → Each (columns ticksForm) rows
+lines-most : (rows : List (List ℕ)) (before : ℕ) (m : Machine) → before + length rows < big → EachRow (columns ticksForm) rows
     → length (lines (runRows before m rows)) ≤ 106 * length rows
 unfolding lines runRows
 lines-most [] before m h none = omega arith
@@ -41,24 +41,27 @@ lines-most (row ∷ rows) before m h (also within each) =
     let rest = lines-most rows (counted before (t .answer .refused)) (t .machine) (omega arith) each in
     simp length-append (omega arith)
 
-pub run-most : (text : List ℕ) (m : Machine) → GoodTicks text → length (ticksIn text) < big → length (runText m (ticksIn text)) ≤ 36 + 106 * length (ticksIn text)
-run-most text m e h =
-    let most = lines-most (ticksIn text) 0 m (omega arith) (written ticksForm text (ticksIn text) e .0 .each) in
-    let size = ap length (run-split m (ticksIn text) (runStart m) refl) in
-    omega (arith, length-append header (toCome (runStart m) (ticksIn text)))
+pub rows-most : (rows : List (List ℕ)) (m : Machine) → length rows < big → EachRow (columns ticksForm) rows → length (runText m rows) ≤ listingMost (length rows)
+rows-most rows m h each =
+    let most = lines-most rows 0 m (omega arith) each in
+    let size = ap length (run-split m rows (runStart m) refl) in
+    omega (arith, length-append header (toCome (runStart m) rows))
+
+pub run-most : (text : List ℕ) (m : Machine) → GoodTicks text → length (ticksIn text) < big → length (runText m (ticksIn text)) ≤ listingMost (length (ticksIn text))
+run-most text m e h = rows-most (ticksIn text) m h (written ticksForm text (ticksIn text) e .0 .each)
 
 -- the tests of the code
-pub fits-by-count : (count room : ℕ) → 36 ≤ room → leb count ((room - 36) / 106) ≡ leb (36 + 106 * count) room
+pub fits-by-count : (count room : ℕ) → 36 ≤ room → leb count ((room - 36) / 106) ≡ leb (listingMost count) room
 fits-by-count count room h = same-truth _ _ to from
   where
-    to : leb count ((room - 36) / 106) ≡ true → leb (36 + 106 * count) room ≡ true
+    to : leb count ((room - 36) / 106) ≡ true → leb (listingMost count) room ≡ true
     to e =
         let l : count ≤ (room - 36) / 106 = leb-true _ _ e in
-        le-leb (36 + 106 * count) room (omega (arith, div-add-mod' (room - 36) 106))
+        le-leb (listingMost count) room (omega (arith, div-add-mod' (room - 36) 106))
 
-    from : leb (36 + 106 * count) room ≡ true → leb count ((room - 36) / 106) ≡ true
+    from : leb (listingMost count) room ≡ true → leb count ((room - 36) / 106) ≡ true
     from e =
-        let l : 36 + 106 * count ≤ room = leb-true _ _ e in
+        let l : listingMost count ≤ room = leb-true _ _ e in
         le-leb count ((room - 36) / 106) (le-div-iff-mul-le {k = 106} {x = count} {y = room - 36} (omega arith) .1 (omega arith))
 
 pub fits-by-room : (text : List ℕ) (room : ℕ) (x : Room) → x ≡ roomFor text room → x .enough ≡ leb (length text) room

@@ -1,2 +1,2 @@
 pub mod Ticks
-pub mod Runs
+pub mod Code

@@ -5,9 +5,10 @@ ghost use lib.Dec.{leb};
 ghost use lib.ListN.{length};
 ghost use Rattle.forms.specs.Forms.{ticksForm};
 ghost use Rattle.forms.specs.Reader.{read};
-ghost use Rattle.writers.specs.Written.{roomFor, Put, Wrote};
-ghost use Rattle.runs.specs.Ticks.{counted, runText, ran, ticksText};
-ghost use Rattle.runs.specs.Runs.{ticksIn, GoodTicks, CountedTicks, runStart, runOn};
+ghost use Rattle.writers.specs.Written.{roomFor, Wrote};
+ghost use Rattle.writers.specs.Code.Put.{Put};
+ghost use Rattle.runs.specs.Ticks.{counted, runText, ran, listingMost, ticksText};
+ghost use Rattle.runs.specs.Code.Runs.{ticksIn, GoodTicks, CountedTicks, runStart, runOn};
 use machine::Machine;
 use readers::Tick;
 use table::Refusal;
@@ -54,7 +55,7 @@ impl Run {
         let before = self.taken;
         let m = self.machine;
         let x = readers::tick_at(s, self.at);
-        let t = m.tick(x.tick.released, x.tick.finished);
+        let t = lent::ticked(m, x.tick.released, x.tick.finished);
         let moved = t.machine;
         let a = t.answer;
         let refused = a.refused;
@@ -87,7 +88,7 @@ fn run_room(m: Machine, s: &[u8], room: usize) -> Room
     while run.at < s.len() {
         run = run.on(s);
         let line = run.line;
-        let row = writers::line_room(line, 5, left);
+        let row = writers::line_room(&line, left);
         if !row.enough {
             return row;
         }
@@ -108,19 +109,27 @@ fn put_run(m: Machine, s: &[u8], out: &mut [u8]) -> usize
     while run.at < s.len() {
         run = run.on(s);
         let line = run.line;
-        next = writers::add_line(out, next, line, 5);
+        next = writers::add_line(out, next, &line);
     }
     next
 }
 
-// Whether a header of 36 bytes and so many rows of 106 have room. No row is longer: five numbers of at most 20 digits, commas and CR LF.
+// A listing's header, and the longest row: five numbers of at most 20 digits, commas and CR LF.
+const HEADER: usize = 36;
+
+const ROW: usize = 106;
+
+// The most that the program "ticks" writes: it lends so much, and refusal 16 cannot come up. A tick takes at least 5 bytes of its text.
+pub const TICKS_MOST: usize = HEADER + ROW * ((texts::LONGEST - Tick::FIRST) / 5);
+
+// Whether the longest listing of so many ticks has room.
 fn surely_fits(count: usize, room: usize) -> bool
-    ensures { λ r. ⌜ r ≡ leb (36 + 106 * count) room ⌝ }
+    ensures { λ r. ⌜ r ≡ leb (listingMost count) room ⌝ }
 {
-    if room < 36 {
+    if room < HEADER {
         return false;
     }
-    count <= (room - 36) / 106
+    count <= (room - HEADER) / ROW
 }
 
 // Whether the listing has room. Only where the buffer could be too short are the ticks run to measure it.

@@ -6,7 +6,7 @@ use mathlib.Core.Logic.{_⊎_, inl, inr}
 use native.Mathlib.Nat.{lt-of-lt-of-le, pow-suc, mod-lt, div-one, div-self, zero-div, div-eq-of-lt}
 use native.Mathlib.Omega.{arith}
 use native.Mathlib.Decide.{ℕ-discrete, decLt}
-use borrow.Author.Tests.{eq-eqb, ne-eqb, eqb-true, eqb-false}
+use borrow.Author.Tests.{eq-eqb, ne-eqb, eqb-true}
 use lib.Bits.{bitAnd, bitOr, and-step, or-step, and-shr, or-shr, and-le-l}
 use lib.Dec.{lit<}
 use lib.Pow.{pow-add, pow-pos, pow-mono, pow-lt, shl-shr, shr-shr, high, mod-pow-add, field, mod-mod-pow, ones-lt, ones-split}
@@ -18,9 +18,6 @@ bit-lt x p = mod-lt (x / 2 ^ p) (lit< tt)
 -- `has` and `bit`
 pub has-true : (x p : ℕ) → has x p ≡ true → bit x p ≡ 1
 has-true x p = eqb-true (bit x p) 1
-
-pub has-false : (x p : ℕ) → has x p ≡ false → bit x p ≡ 0
-has-false x p e = omega (arith, eqb-false (bit x p) 1 e, bit-lt x p)
 
 pub bit-one : (x p : ℕ) → bit x p ≡ 1 → has x p ≡ true
 bit-one x p = eq-eqb (bit x p) 1
@@ -118,6 +115,3 @@ bit-below n p h =
     let cut : below n ≡ (2 ^ suc j - 1) * 2 ^ p + (2 ^ p - 1) = ap (λ (z : ℕ). 2 ^ z - 1) e ∙ ones-split (suc j) p in
     let d : below n / 2 ^ p ≡ 2 ^ suc j - 1 = ap (λ (z : ℕ). z / 2 ^ p) cut ∙ high (2 ^ suc j - 1) p (ones-lt p) in
     rw d (omega (arith, pow-suc 2 j, pow-pos j))
-
-pub bit-below-above : (n p : ℕ) → n ≤ p → bit (below n) p ≡ 0
-bit-below-above n p h = bit-above n (below n) p (ones-lt n) h

@@ -5,6 +5,7 @@ use mathlib.Core.Path.{_≡_, _∙_}
 use native.Mathlib.Omega.{arith}
 use native.Mathlib.Decide.{decLt}
 use lib.Bits.{bitAnd}
+use Rattle.table.specs.Limits.{mostPartitions}
 use Rattle.sets.specs.Sets.{bit, size, without, Within}
 use Rattle.sets.specs.Choice.{choice}
 use Rattle.sets.proofs.Bits.{bit-lt, bit-without}
@@ -14,9 +15,9 @@ use Rattle.sets.proofs.Chosen.{choice-in, choice-out, choice-far}
 
 -- only idle ones are given
 pub choice-within : (idle a : ℕ) → Within (choice idle a) idle
-choice-within idle a p = by (decLt p 64) (decLt (size p idle) a)
+choice-within idle a p = by (decLt p mostPartitions) (decLt (size p idle) a)
   where
-    by : Dec (p < 64) → Dec (size p idle < a) → bit (choice idle a) p ≤ bit idle p
+    by : Dec (p < mostPartitions) → Dec (size p idle < a) → bit (choice idle a) p ≤ bit idle p
     by (yes h) (yes l) = omega (arith, choice-in idle a p h l)
     by (yes h) (no l) = omega (arith, choice-out idle a p (omega arith))
     by (no h) l = omega (arith, choice-far idle a p (omega arith))
@@ -31,7 +32,7 @@ choice-free all held a =
     (λ p. omega (arith, choice-within (without all held) a p, bit-without all held p, bit-lt held p, bit-lt all p))
 
 -- as many as were asked for, where there are that many
-choice-count : (idle a w : ℕ) → w ≤ 64 → size w (choice idle a) ≡ min a (size w idle)
+choice-count : (idle a w : ℕ) → w ≤ mostPartitions → size w (choice idle a) ≡ min a (size w idle)
 choice-count idle a zero h = rw (size-none (choice idle a), size-none idle) (omega arith)
 choice-count idle a (suc w) h = by (choice-count idle a w (omega arith)) (decLt (size w idle) a)
   where
@@ -39,17 +40,17 @@ choice-count idle a (suc w) h = by (choice-count idle a w (omega arith)) (decLt 
     by r (yes l) = rw (size-more w (choice idle a), size-more w idle, choice-in idle a w h l) (omega (arith, bit-lt idle w))
     by r (no l) = rw (size-more w (choice idle a), size-more w idle, choice-out idle a w (omega arith)) (omega arith)
 
-pub choice-size : (idle a : ℕ) → a ≤ size 64 idle → size 64 (choice idle a) ≡ a
-choice-size idle a h = omega (arith, choice-count idle a 64 (omega arith))
+pub choice-size : (idle a : ℕ) → a ≤ size mostPartitions idle → size mostPartitions (choice idle a) ≡ a
+choice-size idle a h = omega (arith, choice-count idle a mostPartitions (omega arith))
 
 pub choice-none : (idle : ℕ) → choice idle 0 ≡ 0
 choice-none idle = none (choice idle 0) (λ p. choice-out idle 0 p zero-le)
 
 -- the lowest-numbered: an idle one below one that is given is given too
 pub choice-lowest : (idle a p q : ℕ) → bit (choice idle a) q ≡ 1 → p < q → bit idle p ≡ 1 → bit (choice idle a) p ≡ 1
-choice-lowest idle a p q e h b = by (decLt q 64) (decLt (size q idle) a)
+choice-lowest idle a p q e h b = by (decLt q mostPartitions) (decLt (size q idle) a)
   where
-    by : Dec (q < 64) → Dec (size q idle < a) → bit (choice idle a) p ≡ 1
+    by : Dec (q < mostPartitions) → Dec (size q idle < a) → bit (choice idle a) p ≡ 1
     by (yes k) (yes l) = choice-in idle a p (omega arith) (omega (arith, size-grows p q idle (omega arith))) ∙ b
     by (yes k) (no l) = absurd (omega (arith, choice-out idle a q (omega arith)))
     by (no k) l = absurd (omega (arith, choice-far idle a q (omega arith)))

@@ -12,6 +12,7 @@ use lib.Bits.{bitOr, or-zero-l, or-zero-r}
 use lib.Dec.{ltb}
 use lib.ListN.{length, take, length-append}
 use lib.Seq.{take-all, take-append-le, take-nil}
+use Rattle.table.specs.Limits.{mostPartitions}
 use Rattle.sets.specs.Sets.{bit, has, size, members, setOf, setWhere}
 use Rattle.sets.specs.Choice.{choice}
 use Rattle.sets.proofs.Bits.{bit-cases, bit-one, bit-none, has-bit, bit-or}
@@ -69,20 +70,20 @@ chosen (suc w) x a = by (chosen w x a) (bit-cases x w) (decLt (size w x) a)
         let short : a ≤ length (members w x) = omega (arith, members-size w x) in
         rw (members-in w x e, take-append-le a (members w x) (w ∷ []) short, ← add-one, where-out (among x a) w f) h
 
-choice-is : (x a : ℕ) → choice x a ≡ setWhere (among x a) 64
+choice-is : (x a : ℕ) → choice x a ≡ setWhere (among x a) mostPartitions
 unfolding choice
-choice-is x a = chosen 64 x a
+choice-is x a = chosen mostPartitions x a
 
 module _ (x a p : ℕ) where
-  pub choice-in : p < 64 → size p x < a → bit (choice x a) p ≡ bit x p
-  choice-in h l = rw (choice-is x a) (where-bit (among x a) 64 p h ∙ rw (lt-ltb (size p x) a l, and-true) (has-bit x p))
+  pub choice-in : p < mostPartitions → size p x < a → bit (choice x a) p ≡ bit x p
+  choice-in h l = rw (choice-is x a) (where-bit (among x a) mostPartitions p h ∙ rw (lt-ltb (size p x) a l, and-true) (has-bit x p))
 
-  pub choice-far : 64 ≤ p → bit (choice x a) p ≡ 0
-  choice-far h = rw (choice-is x a) (where-above (among x a) 64 p h)
+  pub choice-far : mostPartitions ≤ p → bit (choice x a) p ≡ 0
+  choice-far h = rw (choice-is x a) (where-above (among x a) mostPartitions p h)
 
   pub choice-out : a ≤ size p x → bit (choice x a) p ≡ 0
-  choice-out l = by (decLt p 64)
+  choice-out l = by (decLt p mostPartitions)
     where
-      by : Dec (p < 64) → bit (choice x a) p ≡ 0
-      by (yes h) = rw (choice-is x a) (where-bit (among x a) 64 p h ∙ rw (le-ltb (size p x) a l, and-false))
+      by : Dec (p < mostPartitions) → bit (choice x a) p ≡ 0
+      by (yes h) = rw (choice-is x a) (where-bit (among x a) mostPartitions p h ∙ rw (le-ltb (size p x) a l, and-false))
       by (no h) = choice-far (omega arith)

@@ -1,15 +1,15 @@
 -- How the union and the holders' being apart move when holders change.
-use Prim.Native.Nat.{ℕ, _-_, _<_, _≤_, max}
-use mathlib.Core.Path.{_≡_, sym, _∙_}
+use Prim.Native.Nat.{ℕ, _<_, _≤_, max}
+use mathlib.Core.Path.{_≡_, _∙_}
 use mathlib.Core.Logic.{_⊎_, inl, inr}
 use native.Mathlib.Omega.{arith}
-use native.Mathlib.Decide.{ℕ-discrete, decLt}
-use lib.Bits.{bitAnd, bitOr, and-comm, and-zero-l}
-use Rattle.sets.specs.Sets.{bit, without, Within}
+use native.Mathlib.Decide.{ℕ-discrete}
+use lib.Bits.{bitAnd, bitOr, and-comm}
+use Rattle.sets.specs.Sets.{bit, Within}
 use Rattle.sets.specs.Families.{unionOf, Apart}
 use Rattle.sets.proofs.Bits.{bit-lt, bit-cases, bit-zero, bit-or}
-use Rattle.sets.proofs.Same.{same, disjoint-of, disjoint-bit, without-or}
-use Rattle.sets.proofs.Unions.{union-within, union-some, union-disjoint, disjoint-union}
+use Rattle.sets.proofs.Same.{same, disjoint-of, disjoint-bit}
+use Rattle.sets.proofs.Unions.{union-within, union-some, disjoint-union}
 
 -- holders that only give up keep apart
 pub apart-within : (f g : ℕ → ℕ) (n : ℕ) → ((i : ℕ) → i < n → Within (g i) (f i)) → Apart n f → Apart n g
@@ -50,15 +50,3 @@ module _ (f g : ℕ → ℕ) (n k : ℕ) (in-n : k < n) (others : (i : ℕ) → 
       by (yes u) (no v) = rw u (and-comm (g k) (g j) ∙ free j m v)
       by (no u) (yes v) = rw v (free i (omega arith) u)
       by (no u) (no v) = rw (others i (omega arith) u, others j m v) (a i j l m)
-
--- holder k gives all up
-pub union-give : (f g : ℕ → ℕ) (n k : ℕ) → k < n → ((i : ℕ) → i < n → (i ≡ k → ⊥) → g i ≡ f i)
-    → g k ≡ 0 → Apart n f → unionOf n g ≡ without (unionOf n f) (f k)
-union-give f g n k h others e a =
-    let back : unionOf n f ≡ bitOr (unionOf n g) (f k) = union-take g f n k h (λ i l w. sym (others i l w)) e in
-    rw back (sym (without-or (unionOf n g) (f k) (union-disjoint g n (f k) (λ i l. by i l (ℕ-discrete i k) (decLt i k)))))
-  where
-    by : (i : ℕ) → i < n → Dec (i ≡ k) → Dec (i < k) → bitAnd (g i) (f k) ≡ 0
-    by i l (yes w) d = rw (w, e) (and-zero-l (f k))
-    by i l (no w) (yes d) = rw (others i l w) (a i k d h)
-    by i l (no w) (no d) = rw (others i l w) (and-comm (f i) (f k) ∙ a k i (omega arith) l)

@@ -9,8 +9,10 @@ use native.Mathlib.Decide.{ℕ-discrete, decLt}
 use lib.Arith.{sub-sub-self}
 use lib.Bits.{bitAnd, and-block, and-self, and-shifted, and-le-l, and-zero-r}
 use lib.Pow.{pow-pos, pow-lt, split, ones-lt}
+use Rattle.table.specs.Limits.{mostPartitions}
 use Rattle.sets.specs.Sets.{bit, size, without, Within}
-use Rattle.sets.specs.Choice.{choice, less}
+use Rattle.sets.specs.Choice.{choice}
+use Rattle.sets.specs.Code.Less.{less}
 use Rattle.sets.proofs.Bits.{bit-cases, bit-lt, bit-zero, bit-without, bit-pow-same, bit-pow-other, bit-mod, mod-more}
 use Rattle.sets.proofs.Same.{ext, and-within}
 use Rattle.sets.proofs.Sizes.{size-zero, size-same, size-pow, size-without}
@@ -74,7 +76,7 @@ module _ (x p : ℕ) (low : Lowest x p) where
 abbrev pub leaves : ℕ → ℕ → ℕ
 leaves x a = without x (choice x a)
 
-module _ (x a q : ℕ) (h : q < 64) where
+module _ (x a q : ℕ) (h : q < mostPartitions) where
   leaves-none : size q x < a → bit (leaves x a) q ≡ 0
   leaves-none l = omega (arith, bit-without x (choice x a) q, choice-in x a q h l)
 
@@ -82,9 +84,9 @@ module _ (x a q : ℕ) (h : q < 64) where
   leaves-all l = omega (arith, bit-without x (choice x a) q, choice-out x a q l)
 
 -- one turn of taking the lowest
-leaves-low : (x a p : ℕ) → x < 2 ^ 64 → Lowest x p → leaves x (suc a) ≡ leaves (without x (2 ^ p)) a
+leaves-low : (x a p : ℕ) → x < 2 ^ mostPartitions → Lowest x p → leaves x (suc a) ≡ leaves (without x (2 ^ p)) a
 leaves-low x a p h low =
-    ext 64 (leaves x (suc a)) (leaves y a)
+    ext mostPartitions (leaves x (suc a)) (leaves y a)
     (lt-of-le-of-lt (sub-le x (bitAnd x (choice x (suc a)))) h)
     (lt-of-le-of-lt (sub-le y (bitAnd y (choice y a))) (lt-of-le-of-lt (sub-le x (bitAnd x (2 ^ p))) h))
     (λ q l. by q l (decLt p q) (ℕ-discrete p q) (decLt (size q y) a))
@@ -95,7 +97,7 @@ leaves-low x a p h low =
     at : (q : ℕ) → bit y q ≡ bit x q - bit (2 ^ p) q
     at q = bit-without x (2 ^ p) q
 
-    by : (q : ℕ) → q < 64 → Dec (p < q) → Dec (p ≡ q) → Dec (size q y < a) → bit (leaves x (suc a)) q ≡ bit (leaves y a) q
+    by : (q : ℕ) → q < mostPartitions → Dec (p < q) → Dec (p ≡ q) → Dec (size q y < a) → bit (leaves x (suc a)) q ≡ bit (leaves y a) q
     by q l (yes d) e (yes s) = leaves-none x (suc a) q l (omega (arith, low-size x p low q d)) ∙ sym (leaves-none y a q l s)
     by q l (yes d) e (no s) =
         leaves-all x (suc a) q l (omega (arith, low-size x p low q d))
@@ -109,15 +111,15 @@ leaves-low x a p h low =
         omega (arith, at q, bit-without y (choice y a) q, bit-without x (choice x (suc a)) q, low-none x p low q (omega arith))
 
 -- a turn of the loop, its start and its two ends
-pub leaves-less : (x a : ℕ) → x < 2 ^ 64 → 0 < x → 0 < a → leaves x a ≡ leaves (bitAnd x (x - 1)) (a - 1)
+pub leaves-less : (x a : ℕ) → x < 2 ^ mostPartitions → 0 < x → 0 < a → leaves x a ≡ leaves (bitAnd x (x - 1)) (a - 1)
 leaves-less x zero h pos l = absurd (omega arith)
 leaves-less x (suc a) h pos l =
-    let p = lowest 64 x h pos in
+    let p = lowest mostPartitions x h pos in
     let one : suc a - 1 ≡ a = omega arith in
     rw (drop-lowest x (p .0) (p .2), one) (leaves-low x a (p .0) h (p .2))
 
 -- also of a set that has none
-pub leaves-step : (x a : ℕ) → x < 2 ^ 64 → 0 < a → leaves x a ≡ leaves (less x) (a - 1)
+pub leaves-step : (x a : ℕ) → x < 2 ^ mostPartitions → 0 < a → leaves x a ≡ leaves (less x) (a - 1)
 leaves-step x a h l =
     elim (ℕ-discrete x 0) [
       | yes e ↦ rw e (omega arith)
@@ -127,7 +129,7 @@ leaves-step x a h l =
 pub less-le : (x : ℕ) → less x ≤ x
 less-le x = and-le-l x (x - 1)
 
-pub leaves-four : (x a : ℕ) → x < 2 ^ 64 → 4 ≤ a → leaves x a ≡ leaves (less (less (less (less x)))) (a - 4)
+pub leaves-four : (x a : ℕ) → x < 2 ^ mostPartitions → 4 ≤ a → leaves x a ≡ leaves (less (less (less (less x)))) (a - 4)
 leaves-four x a h l =
     let one = less-le x in
     let two = less-le (less x) in

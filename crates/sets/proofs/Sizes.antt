@@ -1,6 +1,6 @@
 -- Laws of how many members a set has, each from what holds at every place.
 use Prim.Native.Nat.{ℕ, zero, suc, _+_, _-_, _/_, _^_, _<_, _≤_, zero-le}
-use mathlib.Core.Path.{_≡_, refl, sym, _∙_}
+use mathlib.Core.Path.{_≡_, refl, _∙_}
 use mathlib.Core.Logic.{_⊎_, inl, inr}
 use native.Mathlib.Nat.{not-suc-le-zero, le-of-suc-le-suc, eq-or-lt-of-le, le-refl, div-one, div-eq-of-lt}
 use native.Mathlib.Omega.{arith}
@@ -11,7 +11,7 @@ use lib.Count.{ones, onesIn, ones-step}
 use lib.Pow.{shr-shr, ones-lt}
 use Rattle.sets.specs.Sets.{bit, size, below, without, Within}
 use Rattle.sets.proofs.Bits.{bit-lt, bit-cases, bit-above, bit-zero, bit-or, bit-and, bit-without, bit-pow-same, bit-pow-other, bit-below}
-use Rattle.sets.proofs.Same.{ext, within-below}
+use Rattle.sets.proofs.Same.{within-below}
 
 pub size-none : (x : ℕ) → size 0 x ≡ 0
 unfolding size
@@ -65,9 +65,6 @@ size-or-le w x y = omega (arith, size-or-and w x y)
 pub size-union : (w x y : ℕ) → bitAnd x y ≡ 0 → size w (bitOr x y) ≡ size w x + size w y
 size-union w x y e = omega (arith, rw e at (size-or-and w x y), size-zero w)
 
-pub size-within : (w x y : ℕ) → Within x y → size w x ≤ size w y
-size-within w x y h = size-mono w x y (λ p l. h p)
-
 pub size-without : (w x y : ℕ) → Within y x → size w (without x y) + size w y ≡ size w x
 size-without w x y h =
     omega
@@ -107,14 +104,6 @@ size-some (suc w) x h = by (λ l. size-some w x l) (bit-cases x w)
 
 pub size-pos : (w x p : ℕ) → p < w → bit x p ≡ 1 → 0 < size w x
 size-pos w x p h e = omega (arith, size-more p x, size-grows (suc p) w x h)
-
--- the set of no member
-pub size-empty : (w x : ℕ) → x < 2 ^ w → size w x ≡ 0 → x ≡ 0
-size-empty w x h e = ext w x 0 h (omega arith) (λ p l. by p l (bit-cases x p) ∙ sym (bit-zero p))
-  where
-    by : (p : ℕ) → p < w → (bit x p ≡ 0) ⊎ (bit x p ≡ 1) → bit x p ≡ 0
-    by p l (inl b) = b
-    by p l (inr b) = omega (arith, size-pos w x p l b)
 
 -- the idle ones: those below p that x lacks
 pub size-idle : (w p x : ℕ) → p ≤ w → x < 2 ^ p → size w (without (below p) x) ≡ p - size w x

@@ -3,20 +3,17 @@ use Prim.Native.Nat.{ℕ, zero, suc, _+_, _-_, _*_, _%_, _^_, _<_, _≤_}
 use mathlib.Core.Path.{_≡_, refl, sym, _∙_, ap}
 use mathlib.Core.Bool.{Bool, true, false, cond, _||_}
 use mathlib.Core.Logic.{_⊎_, inl, inr}
-use native.Mathlib.Nat.{not-suc-le-zero, le-of-suc-le-suc, eq-or-lt-of-le, pow-suc, one-mul, le-refl}
+use native.Mathlib.Nat.{not-suc-le-zero, le-of-suc-le-suc, eq-or-lt-of-le, pow-suc, one-mul}
 use native.Mathlib.Omega.{arith}
 use native.Mathlib.Numerals.{add-one}
 use borrow.Author.Tests.{lt-ltb, le-ltb}
 use lib.Bits.{bitOr, or-shifted-r}
 use lib.Dec.{lit<}
 use lib.Pow.{shl-exact}
-use Rattle.maths.specs.Sums.{sum}
-use Rattle.maths.proofs.Sums.{sum-zero, sum-suc}
-use Rattle.sets.specs.Sets.{bit, has, size, setWhere}
+use Rattle.table.specs.Limits.{mostTasks}
+use Rattle.sets.specs.Sets.{bit, has, setWhere}
 use Rattle.sets.specs.TaskSets.{hasTask, taskBit, tasksWhere}
-use Rattle.sets.proofs.Bits.{bit-lt, bit-cases, bit-one, bit-none, has-bit, bit-above, bit-or, bit-pow-same, bit-pow-other}
-use Rattle.sets.proofs.Same.{ext}
-use Rattle.sets.proofs.Sizes.{size-none, size-more, size-wide}
+use Rattle.sets.proofs.Bits.{bit-lt, bit-cases, bit-one, bit-none, bit-above, bit-or, bit-pow-same, bit-pow-other}
 
 -- `1 << p`
 pub shifted : (w p : ℕ) → p < w → 1 * 2 ^ p % 2 ^ w ≡ 2 ^ p
@@ -79,14 +76,6 @@ module _ (f : ℕ → Bool) where
       by true e = bit-one (setWhere f n) p (rw e at (where-bit n p l))
       by false e = bit-none (setWhere f n) p (rw e at (where-bit n p l))
 
--- as many as f is true of
-pub where-size : (f : ℕ → Bool) (w n : ℕ) → n ≤ w → size w (setWhere f n) ≡ sum (λ i. cond (f i) 1 0) n
-where-size f w n h = size-wide n w (setWhere f n) (where-lt f n) h ∙ to n (le-refl n)
-  where
-    to : (m : ℕ) → m ≤ n → size m (setWhere f n) ≡ sum (λ i. cond (f i) 1 0) m
-    to zero l = size-none (setWhere f n) ∙ sym (sum-zero (λ i. cond (f i) 1 0))
-    to (suc m) l = omega (arith, sum-suc (λ i. cond (f i) 1 0) m, size-more m (setWhere f n), to m (omega arith), where-bit f n m l)
-
 pub where-same : (f g : ℕ → Bool) (n : ℕ) → ((i : ℕ) → i < n → f i ≡ g i) → setWhere f n ≡ setWhere g n
 where-same f g zero h = where-none f ∙ sym (where-none g)
 where-same f g (suc n) h = rw (where-more f n, where-more g n, where-same f g n (λ i l. h i (omega arith)), h n (omega arith))
@@ -96,15 +85,11 @@ pub where-empty : (f : ℕ → Bool) (n : ℕ) → ((i : ℕ) → i < n → f i 
 where-empty f zero h = where-none f
 where-empty f (suc n) h = rw (where-more f n, where-empty f n (λ i l. h i (omega arith)), h n (omega arith))
 
--- a set is the set of its members
-pub where-members : (w x : ℕ) → x < 2 ^ w → setWhere (has x) w ≡ x
-where-members w x h = ext w (setWhere (has x) w) x (where-lt (has x) w) h (λ p l. where-bit (has x) w p l ∙ has-bit x p)
-
 -- tasks
-pub task-is : (i : ℕ) → i < 32 → taskBit (i + 1) ≡ 2 ^ i
+pub task-is : (i : ℕ) → i < mostTasks → taskBit (i + 1) ≡ 2 ^ i
 task-is i h =
     let e : i + 1 - 1 ≡ i = omega arith in
-    rw (le-ltb (i + 1) 1 (omega arith), le-ltb 32 (i + 1) (omega arith), e)
+    rw (le-ltb (i + 1) 1 (omega arith), le-ltb mostTasks (i + 1) (omega arith), e)
 
 pub has-task : (x i : ℕ) → hasTask x (i + 1) ≡ has x i
 has-task x i =
@@ -130,7 +115,7 @@ task-above n x zero l h = absurd (omega arith)
 task-above n x (suc i) l h = rw (lt-ltb 0 (suc i) (omega arith)) (bit-none x (suc i - 1) (bit-above n x (suc i - 1) l (omega arith)))
 
 module _ (f : ℕ → Bool) (i : ℕ) where
-  pub tasks-or : i < 32 → f (i + 1) ≡ true → bitOr (tasksWhere f i) (taskBit (i + 1)) ≡ tasksWhere f (i + 1)
+  pub tasks-or : i < mostTasks → f (i + 1) ≡ true → bitOr (tasksWhere f i) (taskBit (i + 1)) ≡ tasksWhere f (i + 1)
   tasks-or h e = rw (task-is i h) (sym (where-or (λ j. f (suc j)) i (rw add-one at e)))
 
   pub tasks-out : f (i + 1) ≡ false → tasksWhere f i ≡ tasksWhere f (i + 1)

@@ -1,12 +1,8 @@
 -- Which partitions a starting job of A = a gets out of the set `idle`. Step 5 of document 01: the lowest-numbered idle ones.
-use Prim.Native.Nat.{ℕ, _-_}
-use lib.Bits.{bitAnd}
+use Prim.Native.Nat.{ℕ}
 use lib.ListN.{take}
+use Rattle.table.specs.Limits.{mostPartitions}
 use Rattle.sets.specs.Sets.{members, setOf}
 
 unfoldable pub choice : ℕ → ℕ → ℕ
-choice idle a = setOf (take a (members 64 idle))
-
--- a set without its lowest member, as the code takes them one by one; no statement rests on it
-abbrev pub less : ℕ → ℕ
-less x = bitAnd x (x - 1)
+choice idle a = setOf (take a (members mostPartitions idle))

@@ -1,11 +1,13 @@
 -- Numbers as sets, as document 01 has them: a partition p adds 2 ^ p, a task k adds 2 ^ (k - 1).
--- Stated over any number of places w once, for the 32 of a set of tasks and the 64 of a set of partitions.
+-- Stated over any number of places w once, for sets of tasks and sets of partitions.
 -- The union of two sets is `bitOr`, what they share is `bitAnd`, both of lib.Bits.
 use Prim.Native.Nat.{ℕ, zero, suc, _+_, _-_, _/_, _%_, _^_, _≤_}
 use mathlib.Core.Bool.{Bool, cond}
 use mathlib.Core.List.{List, [], _∷_, _++_}
 use lib.Bits.{bitAnd, bitOr}
 use lib.Dec.{eqb}
+use Rattle.table.specs.declared.Partitions.{Partitions}
+use Rattle.table.specs.Limits.{mostPartitions}
 
 -- 1 where p is in the set x, and 0 where it is not
 abbrev pub bit : ℕ → ℕ → ℕ
@@ -22,6 +24,10 @@ Within x y = (p : ℕ) → bit x p ≤ bit y p
 unfoldable pub size : ℕ → ℕ → ℕ
 size zero x = 0
 size (suc w) x = size w x + bit x w
+
+-- how many partitions a set of them has
+abbrev pub partitionsIn : ℕ → Partitions
+partitionsIn x = record { 0 = size mostPartitions x }
 
 -- the members of x below w, in ascending order
 unfoldable pub members : ℕ → ℕ → List ℕ

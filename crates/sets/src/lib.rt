@@ -1,19 +1,13 @@
 // Sets of tasks and of partitions as numbers, and the choice of partitions for a starting job.
 ghost use mathlib.Core.Path.{_≡_};
 ghost use Prim.Native.Nat.{min};
-ghost use Rattle.sets.specs.Sets.{has, size, below, without};
+ghost use Rattle.table.specs.Limits.{mostPartitions};
+ghost use Rattle.sets.specs.Sets.{partitionsIn, below, without};
 ghost use Rattle.sets.specs.TaskSets.{hasTask, taskBit};
-ghost use Rattle.sets.specs.Choice.{choice, less};
-
-// Partition p is in the set.
-pub fn has(x: u64, p: u32) -> bool
-    ensures { λ r. ⌜ r ≡ has x p ⌝ }
-{
-    if p < 64 {
-        return (x >> p) % 2 == 1;
-    }
-    false
-}
+ghost use Rattle.sets.specs.Choice.{choice};
+ghost use Rattle.sets.specs.Code.Less.{less};
+use table::Partitions;
+use table::Table;
 
 // Task k is in the set.
 pub fn has_task(x: u32, k: usize) -> bool
@@ -22,7 +16,7 @@ pub fn has_task(x: u32, k: usize) -> bool
     if k < 1 {
         return false;
     }
-    if 32 < k {
+    if Table::MOST < k {
         return false;
     }
     (x >> ((k - 1) as u32)) % 2 == 1
@@ -35,25 +29,26 @@ pub fn task_bit(k: usize) -> u32
     if k < 1 {
         return 0;
     }
-    if 32 < k {
+    if Table::MOST < k {
         return 0;
     }
     1u32 << ((k - 1) as u32)
 }
 
-// How many members the set has.
-pub fn size(x: u64) -> u32
-    ensures { λ r. ⌜ r ≡ size 64 x ⌝ }
+// How many partitions the set has.
+pub fn size(x: u64) -> Partitions
+    ensures { λ r. ⌜ r ≡ partitionsIn x ⌝ }
 {
-    u64::count_ones(x)
+    Partitions(u64::count_ones(x))
 }
 
 // The set of the partitions below p.
-pub fn below(p: u32) -> u64
-    ensures { λ r. ⌜ r ≡ below (min p 64) ⌝ }
+pub fn below(p: Partitions) -> u64
+    ensures { λ r. ⌜ r ≡ below (min (p .0) mostPartitions) ⌝ }
 {
-    if p < 64 {
-        return (1u64 << p) - 1;
+    let count = p.0;
+    if count < Partitions::MOST {
+        return (1u64 << count) - 1;
     }
     0xffff_ffff_ffff_ffff
 }
@@ -76,11 +71,12 @@ fn less(x: u64) -> u64
 }
 
 // The partitions that a starting job of A = a gets, out of the idle ones: four at a time, and then those that are left.
-pub fn choose(idle: u64, a: u32) -> u64
-    ensures { λ r. ⌜ r ≡ choice idle a ⌝ }
+pub fn choose(idle: u64, a: Partitions) -> u64
+    ensures { λ r. ⌜ r ≡ choice idle (a .0) ⌝ }
 {
+    let count = a.0;
     let mut rest = idle;
-    let mut left = a;
+    let mut left = count;
     while 4 <= left {
         if rest == 0 {
             return idle;

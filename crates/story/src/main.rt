@@ -1,5 +1,5 @@
 // A machine in use by one clinic is set up anew for the next: it holds nothing of the old, and a table that is refused leaves it at work.
-// Every step goes through the lent forms of unit.
+// Every step goes through the lent forms.
 use gorsetumble::lending;
 use machine::Machine;
 use machine::Stage;
@@ -77,7 +77,7 @@ fn set_up(
 }
 
 fn tick(m: Machine, released: u32, finished: u32) -> Machine {
-    let t = lending::ticked(m, released, finished);
+    let t = lent::ticked(m, released, finished);
     say_number(b"tick, released ", released as u64);
     say_number(b", finished ", finished as u64);
     say(b": ");

@@ -12,10 +12,10 @@ use lib.Seq.{getD-take}
 use Rattle.maths.proofs.Tests.{not-given, not-outside, positive}
 use Rattle.table.specs.declared.Task.{Task}
 use Rattle.table.specs.declared.Table.{Table}
-use Rattle.table.specs.Limits.{mostTasks, mostCores, mostPartitions}
-use Rattle.table.specs.Tasks.{noTask, M, P, τ, D, T, C, A}
+use Rattle.table.specs.Limits.{mostTasks}
+use Rattle.table.specs.Tasks.{noTask, P, τ, D, T, C, A}
 use Rattle.table.specs.Refused.{tableRules, sizesRefusal, rowRules, rowRefusal, rowsFrom, refusal}
-use Rattle.table.specs.Good.{Good, GoodRow}
+use Rattle.table.specs.Good.{Good, GoodSizes, GoodRow}
 
 pub good-row : (p : ℕ) (τ : Task) → rowRefusal p τ ≡ 0 → GoodRow p τ
 unfolding rowRules
@@ -66,14 +66,6 @@ passed t e = by (eqb (sizesRefusal t) 0) refl e
     by false w e = absurd (eqb-false (sizesRefusal t) 0 w e)
 
 -- what the sizes are where refusals 1 to 3 are not given
-pub record GoodSizes (t : Table) : Type 0 where
-  pub some : 1 ≤ t .n
-  pub few : t .n ≤ mostTasks
-  pub core : 1 ≤ M t
-  pub cores : M t ≤ mostCores
-  pub partition : 1 ≤ P t
-  pub partitions : P t ≤ mostPartitions
-
 pub good-sizes : (t : Table) → sizesRefusal t ≡ 0 → GoodSizes t
 unfolding tableRules
 good-sizes t e =
@@ -87,17 +79,17 @@ good-sizes t e =
 
 -- that a table is not refused is that its sizes are not and that no row is
 module _ (t : Table) (len : length (t .rows) ≡ mostTasks) where
-  pub sizes-accepted : refusal t .number ≡ 0 → sizesRefusal t ≡ 0
-  sizes-accepted e = passed t e .0
+  pub sizes-unrefused : refusal t .number ≡ 0 → sizesRefusal t ≡ 0
+  sizes-unrefused e = passed t e .0
 
-  pub row-accepted : refusal t .number ≡ 0 → (i : ℕ) → i < t .n → rowRefusal (P t) (τ t (suc i)) ≡ 0
-  row-accepted e i l =
+  pub row-unrefused : refusal t .number ≡ 0 → (i : ℕ) → i < t .n → rowRefusal (P t) (τ t (suc i)) ≡ 0
+  row-unrefused e i l =
       let few : t .n ≤ mostTasks = good-sizes t (passed t e .0) .few in
       rw (getD-take (t .n) (t .rows) i noTask l) at (rows-good (P t) 1 (take (t .n) (t .rows)) (passed t e .1) i (simp length-take (omega arith)))
 
-  pub accepted : sizesRefusal t ≡ 0 → ((i : ℕ) → i < t .n → rowRefusal (P t) (τ t (suc i)) ≡ 0) → refusal t .number ≡ 0
+  pub not-refused-of : sizesRefusal t ≡ 0 → ((i : ℕ) → i < t .n → rowRefusal (P t) (τ t (suc i)) ≡ 0) → refusal t .number ≡ 0
   unfolding refusal
-  accepted e h =
+  not-refused-of e h =
       rw (eq-eqb (sizesRefusal t) 0 e) (rows-none (P t) 1 (take (t .n) (t .rows)) (λ i l. rw (getD-take (t .n) (t .rows) i noTask (in-n i l)) (h i (in-n i l))))
     where
       in-n : (i : ℕ) → i < length (take (t .n) (t .rows)) → i < t .n
@@ -105,13 +97,7 @@ module _ (t : Table) (len : length (t .rows) ≡ mostTasks) where
 
   pub good-of : refusal t .number ≡ 0 → Good t
   good-of e =
-      let s = good-sizes t (sizes-accepted e) in
       record {
-        some = s .some;
-        few = s .few;
-        core = s .core;
-        cores = s .cores;
-        partition = s .partition;
-        partitions = s .partitions;
-        row = λ i l. good-row (P t) (τ t (suc i)) (row-accepted e i l);
+        sizes = good-sizes t (sizes-unrefused e);
+        row = λ i l. good-row (P t) (τ t (suc i)) (row-unrefused e i l);
       }

@@ -5,6 +5,7 @@ use Rattle.table.specs.declared.Table.{Table}
 use Rattle.table.specs.Limits.{mostTasks, mostCores, mostPartitions, longestPeriod}
 use Rattle.table.specs.Tasks.{M, P, τ, D, T, C, A}
 
+-- refusals 4 to 8, of a row on a cache of p partitions
 pub record GoodRow (p : ℕ) (τ : Task) : Type 0 where
   pub period : 1 ≤ T τ
   pub short : T τ ≤ longestPeriod
@@ -13,11 +14,15 @@ pub record GoodRow (p : ℕ) (τ : Task) : Type 0 where
   pub deadline : D τ ≤ T τ
   pub room : A τ ≤ p
 
-pub record Good (t : Table) : Type 0 where
+-- refusals 1 to 3
+pub record GoodSizes (t : Table) : Type 0 where
   pub some : 1 ≤ t .n
   pub few : t .n ≤ mostTasks
   pub core : 1 ≤ M t
   pub cores : M t ≤ mostCores
   pub partition : 1 ≤ P t
   pub partitions : P t ≤ mostPartitions
+
+pub record Good (t : Table) : Type 0 where
+  pub sizes : GoodSizes t
   pub row : (i : ℕ) → i < t .n → GoodRow (P t) (τ t (suc i))

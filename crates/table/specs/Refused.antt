@@ -53,3 +53,6 @@ refusal t =
     cond (eqb (sizesRefusal t) 0)
     (rowsRefusal t)
     (record { number = sizesRefusal t; row = 0 })
+
+abbrev pub unrefused : Table → Bool
+unrefused t = eqb (refusal t .number) 0

@@ -1,6 +1,8 @@
 -- The names of the report for what a table holds: M, A of the platform (P of document 01), and task k, numbered from 1.
 use Prim.Native.Nat.{ℕ}
-use lib.ListN.{replicate}
+use mathlib.Core.List.{List}
+use lib.ListN.{length, replicate}
+use Rattle.maths.specs.Padded.{padded}
 use Rattle.maths.specs.Tasks.{entry}
 use Rattle.table.specs.declared.Platform.{Platform}
 use Rattle.table.specs.declared.Task.{Task}
@@ -12,6 +14,10 @@ noTask = record { d = 0; t = 0; c = 0; a = record { 0 = 0 } }
 
 abbrev pub emptyTable : Platform → Table
 emptyTable platform = record { platform = platform; n = 0; rows = replicate mostTasks noTask }
+
+-- The table of a row of tasks, however many: its count is the whole row's, so that 33 earn refusal 1 and are never cut to 32.
+abbrev pub tableOf : Platform → List Task → Table
+tableOf platform tasks = record { platform = platform; n = length tasks; rows = padded mostTasks noTask tasks }
 
 -- cores
 abbrev pub M : Table → ℕ

@@ -1,5 +1,5 @@
 // The task table of a unit and its platform, the limits of each, and refusals 1 to 8 of document 01.
-ghost use Prim.Native.Nat.{_≤_};
+ghost use Prim.Native.Nat.{min, _≤_};
 ghost use mathlib.Core.Path.{_≡_};
 ghost use Rattle.table.specs.Limits.{mostTasks, mostCores, mostPartitions, longestPeriod};
 ghost use Rattle.table.specs.Refused.{sizesRefusal, rowRefusal, rowsRefusal, refusal};
@@ -100,6 +100,13 @@ impl Table {
             n: 0,
             rows: [Task::none(); Table::MOST],
         }
+    }
+
+    // How many entries tasks 1 to n have: a refused table may say more than there are.
+    pub fn entries(n: usize) -> usize
+        ensures { λ r. ⌜ r ≡ min n mostTasks ⌝ }
+    {
+        if n < Table::MOST { n } else { Table::MOST }
     }
 
     // The first of refusals 1 to 3, or 0.

@@ -1,12 +1,14 @@
 -- From what the readers answer back to the texts.
-use Prim.Native.Nat.{ℕ}
+use Prim.Native.Nat.{ℕ, _≤_}
 use mathlib.Core.Path.{_≡_, refl, sym, ap, _∙_}
-use mathlib.Core.Bool.{Bool, true, false, _&&_}
+use mathlib.Core.Bool.{Bool, true, false, cond, _&&_}
 use mathlib.Core.List.{List, map}
 use native.Mathlib.Omega.{arith}
+use borrow.Author.Tests.{leb-true}
 use lib.Dec.{leb}
 use lib.ListN.{length}
 use Rattle.maths.proofs.Padded.{length-padded}
+use Rattle.maths.proofs.Tests.{both}
 use Rattle.forms.specs.Forms.{Form}
 use Rattle.forms.specs.Reads.{Answer, found, refused}
 use Rattle.forms.specs.Reader.{read}
@@ -17,7 +19,7 @@ use Rattle.table.specs.Limits.{mostTasks}
 use Rattle.table.specs.Tasks.{noTask}
 use Rattle.readers.specs.declared.PlatformRead.{PlatformRead}
 use Rattle.readers.specs.declared.TableRead.{TableRead}
-use Rattle.readers.specs.Inputs.{taskOf, tableOf, platformRead, tableRead}
+use Rattle.readers.specs.Inputs.{taskOf, platformRead, tableRead}
 use Rattle.texts.specs.Given.{given, longest, taken}
 
 module _ (F : Form) (there : Bool) (bytes : List ℕ) (b : Bool) (e : b ≡ (there && leb (length bytes) longest)) where
@@ -28,6 +30,17 @@ module _ (F : Form) (there : Bool) (bytes : List ℕ) (b : Bool) (e : b ≡ (the
   pub taken-read : b ≡ true → taken F there bytes ≡ read F bytes
   unfolding taken
   taken-read h = rw (sym e, h)
+
+-- a text that is taken and found good is read, and is not too long
+pub taken-found : (F : Form) (there : Bool) (bytes : List ℕ) (rows : List (List ℕ)) → taken F there bytes ≡ found rows
+    → (read F bytes ≡ found rows) × (length bytes ≤ longest)
+unfolding taken
+taken-found F there bytes rows e = go (there && leb (length bytes) longest) refl e
+  where
+    go : (b : Bool) → (there && leb (length bytes) longest) ≡ b → cond b (read F bytes) (refused 0) ≡ found rows
+        → (read F bytes ≡ found rows) × (length bytes ≤ longest)
+    go true t f = (f, leb-true (length bytes) longest (both there (leb (length bytes) longest) t .1))
+    go false t f = absurd (let z : _≡_ {A = ℕ} 0 1 = cc in omega arith)
 
 -- the platform, and then the table
 module _ {A : Type 0} (bad : Refusal → A) (good : Table → A) where
@@ -61,6 +74,5 @@ module _ {A : Type 0} (bad : Refusal → A) (good : Table → A) where
 
 -- a table that was read has room for 32 rows
 pub rows-32 : (platform : Platform) (y : Answer (List (List ℕ))) (t : TableRead) → t ≡ tableRead platform y → length (t .table .rows) ≡ mostTasks
-unfolding tableOf
 rows-32 platform (found rows) t e = ap (λ (q : TableRead). length (q .table .rows)) e ∙ length-padded noTask mostTasks (map taskOf rows)
 rows-32 platform (refused offset) t e = ap (λ (q : TableRead). length (q .table .rows)) e

@@ -1,3 +1,5 @@
 pub mod Given
 pub mod Answers
+pub mod Sizes
+pub mod Back
 pub mod Determined

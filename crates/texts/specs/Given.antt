@@ -2,20 +2,20 @@
 -- if it is there and not over 60,000 bytes; any other is refused with 15 and 0.
 use Prim.Native.Nat.{ℕ}
 use mathlib.Core.Bool.{Bool, cond, _&&_}
-use mathlib.Core.List.{List, []}
+use mathlib.Core.List.{List}
 use lib.Dec.{leb}
-use lib.ListN.{length, getD}
+use lib.ListN.{length}
 use Rattle.forms.specs.Forms.{Form}
 use Rattle.forms.specs.Reads.{Answer, found, refused}
 use Rattle.forms.specs.Reader.{read}
 use Rattle.table.specs.declared.Refusal.{Refusal}
 use Rattle.table.specs.declared.Table.{Table}
-use Rattle.readers.specs.Inputs.{badText, platformOf, tableOf}
+use Rattle.readers.specs.Inputs.{badText, tableFrom}
 
 abbrev pub given : {A : Type 0} → (Refusal → A) → (Table → A) → Answer (List (List ℕ)) → Answer (List (List ℕ)) → A
 given bad good (refused offset) tasks = bad (badText offset)
 given bad good (found platform) (refused offset) = bad (badText offset)
-given bad good (found platform) (found rows) = good (tableOf (platformOf (getD platform 0 [])) rows)
+given bad good (found platform) (found rows) = good (tableFrom platform rows)
 
 abbrev pub longest : ℕ
 longest = 60000

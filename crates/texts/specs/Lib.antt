@@ -1,3 +1,4 @@
 pub mod Given
 pub mod Admit
 pub mod Verdict
+pub mod Back

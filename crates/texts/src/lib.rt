@@ -12,10 +12,14 @@ use readers::PlatformRead;
 use readers::TableRead;
 use readers::TicksRead;
 use table::Platform;
+use table::Table;
 use writers::Written;
 
 // The longest text that a program takes.
-const LONGEST: usize = 60_000;
+pub const LONGEST: usize = 60_000;
+
+// The most that the program "admit" writes: it lends so much, and refusal 16 cannot come up.
+pub const ADMIT_MOST: usize = 18 + 27 * Table::MOST;
 
 // Whether a program takes a text of this length, which is there or not; any other is refused with 15 and 0.
 fn takes(there: bool, length: usize) -> bool

@@ -1,16 +1,17 @@
 // Runs the ticks of standard input on the fresh machine of platform.csv and tasks.csv, of the working folder, and writes a row for each, or
 // the refusal.
+ghost use mathlib.Core.Path.{_≡_};
+ghost use Rattle.table.specs.Refused.{noRefusal};
 ghost use Rattle.files.specs.Got.{Whole};
 use files::File;
 use libc::STDIN_FILENO;
 use libc::STDOUT_FILENO;
+use writers::Written;
 
 // One byte more than the longest text that a program takes.
-const ROOM: usize = 60_001;
+const ROOM: usize = texts::LONGEST + 1;
 
-// Of 60,000 bytes the header takes 19 and a tick at least 5, so there are at most 11,996; a row of five numbers of 64 bits has at most 106
-// bytes, and the listing's header 36: no listing is longer.
-const LISTING: usize = 36 + 11_996 * 106;
+const LISTING: usize = runs::TICKS_MOST;
 
 // Arrays are lent at their length: the prover would count out one that the function itself makes.
 fn read_text(path: &[u8], buf: &mut [u8; ROOM]) -> File
@@ -25,9 +26,9 @@ fn read_input(buf: &mut [u8; ROOM]) -> File
     files::read_all(STDIN_FILENO, buf)
 }
 
-// What the files and standard input give, and how long it is.
-fn put_listing(out: &mut [u8; LISTING]) -> usize
-    ensures { λ r. ⌜ Whole r (now (out .exit)) ⌝ }
+// What the files and standard input give, and how long it is. The buffer is never too short.
+fn put_listing(out: &mut [u8; LISTING]) -> Written
+    ensures { λ r. ⌜ (r .refused ≡ noRefusal) × Whole (r .length) (now (out .exit)) ⌝ }
 {
     let mut platform = [0u8; ROOM];
     let p = read_text(b"platform.csv", &mut platform);
@@ -41,7 +42,7 @@ fn put_listing(out: &mut [u8; LISTING]) -> usize
     let t_length = t.length;
     let r_there = r.there;
     let r_length = r.length;
-    let w = runs::ticks(
+    runs::ticks(
         p_there,
         &platform[..p_length],
         t_there,
@@ -49,12 +50,12 @@ fn put_listing(out: &mut [u8; LISTING]) -> usize
         r_there,
         &reports[..r_length],
         out,
-    );
-    w.length
+    )
 }
 
 fn main() {
     let mut out = [0u8; LISTING];
-    let n = put_listing(&mut out);
+    let w = put_listing(&mut out);
+    let n = w.length;
     io::write_all(STDOUT_FILENO, &out[..n]);
 }

@@ -1,15 +1,14 @@
 -- A text that is put only if it has room.
-use Prim.Native.Nat.{ℕ, _+_, _-_, _<_, _≤_, min}
+use Prim.Native.Nat.{ℕ, _+_, _-_, _<_, _≤_}
 use mathlib.Core.Path.{_≡_, refl, sym, ap, _∙_}
 use mathlib.Core.Bool.{Bool, true, false}
 use mathlib.Core.List.{List}
 use native.Mathlib.Omega.{arith}
-use native.Mathlib.Decide.{decLe}
 use borrow.Author.Tests.{le-leb, lt-leb}
-use lib.ListN.{length, take}
-use lib.Seq.{take-all}
+use lib.ListN.{length}
 use Rattle.writers.specs.declared.Room.{Room}
-use Rattle.writers.specs.Written.{roomFor, Put, Added}
+use Rattle.writers.specs.Written.{roomFor, Added}
+use Rattle.writers.specs.Code.Put.{Put}
 use Rattle.writers.proofs.Wholes.{fits-is, long-is}
 
 module _ (buffer : List ℕ) (at : ℕ) (text : List ℕ) where
@@ -35,11 +34,3 @@ module _ (buffer : List ℕ) (at : ℕ) (text : List ℕ) where
 
     pub short-at : x .enough ≡ false → length buffer < at + length text
     short-at h = let l = long-is text (length buffer - at) x e h in omega arith
-
--- no more numbers than there are
-pub take-fewer : (numbers : List ℕ) (columns n : ℕ) → n ≡ min columns (length numbers) → take columns numbers ≡ take n numbers
-take-fewer numbers columns n e = go (decLe columns (length numbers))
-  where
-    go : Dec (columns ≤ length numbers) → take columns numbers ≡ take n numbers
-    go (yes l) = let f : n ≡ columns = omega arith in rw f
-    go (no g) = take-all columns numbers (omega arith) ∙ sym (take-all n numbers (omega arith))

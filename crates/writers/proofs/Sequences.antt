@@ -5,7 +5,7 @@ use mathlib.Core.List.{List, [], _∷_, _++_, append-assoc, append-nil}
 use native.Mathlib.Omega.{arith}
 use lib.ListN.{length, length-append}
 use lib.Seq.{sets, length-sets}
-use Rattle.writers.specs.Written.{Put}
+use Rattle.writers.specs.Code.Put.{Put}
 use Rattle.writers.proofs.Puts.{sets-append}
 
 pub put-none : (buffer : List ℕ) (at : ℕ) → Put buffer at [] at buffer

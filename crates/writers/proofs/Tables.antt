@@ -30,8 +30,8 @@ module _ (t : Table) (size : length (t .rows) ≡ mostTasks) (n : ℕ) (e : n �
   unfolding text
   tasks-split = rw same-rows
 
-  pub rows-more : (i : ℕ) → i < n → (numbers : List ℕ) → take 4 numbers ≡ taskRow (getD (t .rows) i noTask)
-      → rowsFrom t n i ≡ line (take 4 numbers) ++ rowsFrom t n (i + 1)
+  pub rows-more : (i : ℕ) → i < n → (numbers : List ℕ) → numbers ≡ taskRow (getD (t .rows) i noTask)
+      → rowsFrom t n i ≡ line numbers ++ rowsFrom t n (i + 1)
   unfolding lines
   rows-more i less numbers f = rw (front noTask n (t .rows) i less (omega arith), f)
 

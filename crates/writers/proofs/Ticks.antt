@@ -8,19 +8,19 @@ use native.Mathlib.Decide.{decLe}
 use lib.ListN.{length, take, drop, getD, drop-of-length-le}
 use lib.Seq.{drop-cons}
 use Rattle.forms.specs.Forms.{ticksForm, crlf, line, lines, text}
-use Rattle.writers.specs.Outputs.{tickRows, ticksText}
+use Rattle.writers.specs.Outputs.{tickRows, reportsText}
 
 -- the text of ticks i and on
 abbrev pub ticksFrom : List ℕ → List ℕ → ℕ → List ℕ
 ticksFrom released finished i = lines (tickRows (drop i released) (drop i finished))
 
-pub ticks-split : (released finished : List ℕ) → ticksText released finished ≡ ticksForm .header ++ crlf ++ ticksFrom released finished 0
+pub ticks-split : (released finished : List ℕ) → reportsText released finished ≡ ticksForm .header ++ crlf ++ ticksFrom released finished 0
 unfolding text
 ticks-split released finished = refl
 
 pub ticks-more : (released finished : List ℕ) (i : ℕ) → i < length released → i < length finished → (numbers : List ℕ)
-    → take 2 numbers ≡ getD released i 0 ∷ getD finished i 0 ∷ []
-    → ticksFrom released finished i ≡ line (take 2 numbers) ++ ticksFrom released finished (i + 1)
+    → numbers ≡ getD released i 0 ∷ getD finished i 0 ∷ []
+    → ticksFrom released finished i ≡ line numbers ++ ticksFrom released finished (i + 1)
 unfolding lines tickRows
 ticks-more released finished i l m numbers e = rw add-one (rw (drop-cons released i 0 l, drop-cons finished i 0 m, e))
 

@@ -17,7 +17,8 @@ use Rattle.writers.specs.declared.Room.{Room}
 use Rattle.writers.specs.declared.Written.{Written}
 use Rattle.writers.specs.declared.TextsWritten.{TextsWritten}
 use Rattle.writers.specs.Outputs.{listing}
-use Rattle.writers.specs.Written.{tooShort, written, leaves, Wrote, bothFit, WroteBoth, Put, roomFor}
+use Rattle.writers.specs.Written.{tooShort, written, leaves, Wrote, bothFit, WroteBoth, roomFor}
+use Rattle.writers.specs.Code.Put.{Put}
 use Rattle.writers.proofs.Puts.{sets-front}
 use Rattle.writers.proofs.Rooms.{enough-is, short-is, room-more, room-stop}
 
@@ -72,6 +73,10 @@ module _ (text buffer after : List ℕ) (w : Written) (h : Wrote text buffer w a
   pub wrote-length : w .length ≡ length text
   unfolding written
   wrote-length = ap (λ (x : Written). x .length) (h .answers) ∙ rw (le-leb (length text) (length buffer) fits)
+
+  pub wrote-all : w .refused ≡ noRefusal
+  unfolding written
+  wrote-all = ap (λ (x : Written). x .refused) (h .answers) ∙ rw (le-leb (length text) (length buffer) fits)
 
   pub wrote-holds : after ≡ text ++ drop (length text) buffer
   unfolding leaves

@@ -1,3 +1,4 @@
 pub mod Written
 pub mod Signed
 pub mod Outputs
+pub mod Code

@@ -31,15 +31,18 @@ tickRows [] finished = []
 tickRows (r ∷ released) [] = []
 tickRows (r ∷ released) (f ∷ finished) = (r ∷ f ∷ []) ∷ tickRows released finished
 
-abbrev pub ticksText : List ℕ → List ℕ → List ℕ
-ticksText released finished = text ticksForm (tickRows released finished)
+abbrev pub reportsText : List ℕ → List ℕ → List ℕ
+reportsText released finished = text ticksForm (tickRows released finished)
 
 -- a listing is written and not read
 unfoldable pub listing : String → List (List ℕ) → List ℕ
 listing header rows = bytes header ++ (crlf ++ lines rows)
 
+abbrev pub refusedRow : Refusal → List ℕ
+refusedRow r = r .number ∷ r .row ∷ []
+
 abbrev pub refusedText : Refusal → List ℕ
-refusedText r = listing "refused,row" ((r .number ∷ r .row ∷ []) ∷ [])
+refusedText r = listing "refused,row" (refusedRow r ∷ [])
 
 -- of tasks k, k + 1, ..
 unfoldable pub marginLines : ℕ → List ℤ → List ℕ

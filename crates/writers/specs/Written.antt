@@ -49,11 +49,6 @@ roomFor text room =
     (record { enough = true; left = room - length text })
     (record { enough = false; left = 0 })
 
--- a text put into a buffer from a place on: the place behind it, and what the buffer then holds
-pub record Put (buffer : List ℕ) (at : ℕ) (text : List ℕ) (next : ℕ) (after : List ℕ) : Type 0 where
-  pub behind : next ≡ at + length text
-  pub holds : after ≡ sets buffer at text
-
 -- a text put only if it has room from its place on
 abbrev pub fitsAt : List ℕ → ℕ → List ℕ → Bool
 fitsAt buffer at text = leb (at + length text) (length buffer)

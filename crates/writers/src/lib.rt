@@ -5,10 +5,11 @@ ghost use mathlib.Core.List.{[], _∷_, _++_};
 ghost use lib.ListN.{length, take};
 ghost use Rattle.forms.specs.Digits.{digits};
 ghost use Rattle.forms.specs.Forms.{ending, line};
-ghost use Rattle.writers.specs.Outputs.{platformRow, platformText, taskRow, tasksText, ticksText, refusedText, marginsText};
+ghost use Rattle.writers.specs.Outputs.{platformRow, platformText, taskRow, tasksText, reportsText, refusedRow, refusedText, marginsText};
 ghost use Rattle.table.specs.Limits.{mostTasks};
 ghost use Rattle.writers.specs.Signed.{marginOf, sign, marginRow};
-ghost use Rattle.writers.specs.Written.{Put, roomFor, tooShort, Wrote, WroteBoth, Added};
+ghost use Rattle.writers.specs.Written.{roomFor, tooShort, Wrote, WroteBoth, Added};
+ghost use Rattle.writers.specs.Code.Put.{Put};
 ghost use Rattle.table.specs.Refused.{noRefusal};
 use table::Platform;
 use table::Refusal;
@@ -26,6 +27,9 @@ pub struct Room {
     pub enough: bool,
     pub left: usize,
 }
+
+// The columns of a tasks text.
+const TASK: usize = 4;
 
 // How many digits a number has.
 fn width(n: u64) -> usize
@@ -113,28 +117,28 @@ fn cell_room(n: u64, left: usize, room: usize) -> Room
     }
 }
 
-// A row of the first numbers, so many as there are columns.
-fn put_row(buf: &mut [u8], at: usize, numbers: [u64; 5], columns: usize) -> usize
-    requires { ⌜ (columns ≤ 5) × (at + length (line (take columns numbers)) ≤ length (now buf)) ⌝ }
-    ensures { λ r. ⌜ Put (now (buf .entry)) at (line (take columns numbers)) r (now (buf .exit)) ⌝ }
+// A row of the numbers.
+fn put_row(buf: &mut [u8], at: usize, numbers: &[u64]) -> usize
+    requires { ⌜ at + length (line (now numbers)) ≤ length (now buf) ⌝ }
+    ensures { λ r. ⌜ Put (now (buf .entry)) at (line (now (numbers .entry))) r (now (buf .exit)) ⌝ }
 {
     let mut next = at;
     let mut j: usize = 0;
-    while j < columns {
-        next = put_cell(buf, next, numbers[j], columns - j - 1);
+    while j < numbers.len() {
+        next = put_cell(buf, next, numbers[j], numbers.len() - j - 1);
         j += 1;
     }
     next
 }
 
-fn row_room(numbers: [u64; 5], columns: usize, room: usize) -> Room
-    requires { ⌜ columns ≤ 5 ⌝ }
-    ensures { λ r. ⌜ r ≡ roomFor (line (take columns numbers)) room ⌝ }
+// What is left of some room behind a row of the numbers.
+pub fn line_room(numbers: &[u64], room: usize) -> Room
+    ensures { λ r. ⌜ r ≡ roomFor (line (now (numbers .entry))) room ⌝ }
 {
     let mut left = room;
     let mut j: usize = 0;
-    while j < columns {
-        let m = cell_room(numbers[j], columns - j - 1, left);
+    while j < numbers.len() {
+        let m = cell_room(numbers[j], numbers.len() - j - 1, left);
         if !m.enough {
             return Room {
                 enough: false,
@@ -185,35 +189,33 @@ impl Written {
     }
 }
 
-fn one_room(header: &[u8], numbers: [u64; 5], columns: usize, room: usize) -> Room
-    requires { ⌜ columns ≤ 5 ⌝ }
-    ensures { λ r. ⌜ r ≡ roomFor (now (header .entry) ++ line (take columns numbers)) room ⌝ }
+fn one_room(header: &[u8], numbers: &[u64], room: usize) -> Room
+    ensures { λ r. ⌜ r ≡ roomFor (now (header .entry) ++ line (now (numbers .entry))) room ⌝ }
 {
     let head = word_room(header, room);
     if !head.enough {
         return head;
     }
-    row_room(numbers, columns, head.left)
+    line_room(numbers, head.left)
 }
 
 // A header line and one row.
-fn write_one(buf: &mut [u8], header: &[u8], numbers: [u64; 5], columns: usize) -> Written
-    requires { ⌜ columns ≤ 5 ⌝ }
-    ensures { λ r. ⌜ Wrote (now (header .entry) ++ line (take columns numbers)) (now (buf .entry)) r (now (buf .exit)) ⌝ }
+fn write_one(buf: &mut [u8], header: &[u8], numbers: &[u64]) -> Written
+    ensures { λ r. ⌜ Wrote (now (header .entry) ++ line (now (numbers .entry))) (now (buf .entry)) r (now (buf .exit)) ⌝ }
 {
-    let m = one_room(header, numbers, columns, buf.len());
+    let m = one_room(header, numbers, buf.len());
     if !m.enough {
         return Written::short();
     }
     let next = put_word(buf, 0, header);
-    let end = put_row(buf, next, numbers, columns);
+    let end = put_row(buf, next, numbers);
     Written::whole(end)
 }
 
-fn platform_numbers(p: Platform) -> [u64; 5]
-    ensures { λ r. ⌜ take 2 r ≡ platformRow p ⌝ }
+fn platform_numbers(p: Platform) -> [u64; 2]
+    ensures { λ r. ⌜ r ≡ platformRow p ⌝ }
 {
-    [p.cores.0 as u64, p.partitions.0 as u64, 0, 0, 0]
+    [p.cores.0 as u64, p.partitions.0 as u64]
 }
 
 // The text of a platform.
@@ -221,21 +223,27 @@ pub fn write_platform(p: Platform, buf: &mut [u8]) -> Written
     ensures { λ r. ⌜ Wrote (platformText p) (now (buf .entry)) r (now (buf .exit)) ⌝ }
 {
     let numbers = platform_numbers(p);
-    write_one(buf, b"cores,partitions\r\n", numbers, 2)
+    write_one(buf, b"cores,partitions\r\n", &numbers)
+}
+
+fn refused_numbers(r: Refusal) -> [u64; 2]
+    ensures { λ n. ⌜ n ≡ refusedRow r ⌝ }
+{
+    [r.number as u64, r.row as u64]
 }
 
 // The listing of a refused table or text.
 pub fn write_refused(r: Refusal, buf: &mut [u8]) -> Written
     ensures { λ w. ⌜ Wrote (refusedText r) (now (buf .entry)) w (now (buf .exit)) ⌝ }
 {
-    let numbers = [r.number as u64, r.row as u64, 0, 0, 0];
-    write_one(buf, b"refused,row\r\n", numbers, 2)
+    let numbers = refused_numbers(r);
+    write_one(buf, b"refused,row\r\n", &numbers)
 }
 
-fn task_numbers(t: Task) -> [u64; 5]
-    ensures { λ r. ⌜ take 4 r ≡ taskRow t ⌝ }
+fn task_numbers(t: Task) -> [u64; TASK]
+    ensures { λ r. ⌜ r ≡ taskRow t ⌝ }
 {
-    [t.d as u64, t.t as u64, t.c as u64, t.a.0 as u64, 0]
+    [t.d as u64, t.t as u64, t.c as u64, t.a.0 as u64]
 }
 
 fn fewer(a: usize, b: usize) -> usize
@@ -257,7 +265,7 @@ fn tasks_room(t: Table, room: usize) -> Room
     while i < n {
         let task = t.rows[i];
         let numbers = task_numbers(task);
-        let row = row_room(numbers, 4, left);
+        let row = line_room(&numbers, left);
         if !row.enough {
             return row;
         }
@@ -280,7 +288,7 @@ fn put_tasks(buf: &mut [u8], t: Table) -> usize
     while i < n {
         let task = t.rows[i];
         let numbers = task_numbers(task);
-        next = put_row(buf, next, numbers, 4);
+        next = put_row(buf, next, &numbers);
         i += 1;
     }
     next
@@ -435,14 +443,14 @@ pub fn write_margins(n: usize, margins: [i64; Table::MOST], buf: &mut [u8]) -> W
     Written::whole(end)
 }
 
-fn tick_numbers(released: u32, finished: u32) -> [u64; 5]
-    ensures { λ r. ⌜ take 2 r ≡ released ∷ finished ∷ [] ⌝ }
+fn tick_numbers(released: u32, finished: u32) -> [u64; 2]
+    ensures { λ r. ⌜ r ≡ released ∷ finished ∷ [] ⌝ }
 {
-    [released as u64, finished as u64, 0, 0, 0]
+    [released as u64, finished as u64]
 }
 
 fn ticks_room(released: &[u32], finished: &[u32], room: usize) -> Room
-    ensures { λ r. ⌜ r ≡ roomFor (ticksText (now (released .entry)) (now (finished .entry))) room ⌝ }
+    ensures { λ r. ⌜ r ≡ roomFor (reportsText (now (released .entry)) (now (finished .entry))) room ⌝ }
 {
     let head = word_room(b"released,finished\r\n", room);
     if !head.enough {
@@ -453,7 +461,7 @@ fn ticks_room(released: &[u32], finished: &[u32], room: usize) -> Room
     let mut i: usize = 0;
     while i < n {
         let numbers = tick_numbers(released[i], finished[i]);
-        let row = row_room(numbers, 2, left);
+        let row = line_room(&numbers, left);
         if !row.enough {
             return row;
         }
@@ -467,15 +475,15 @@ fn ticks_room(released: &[u32], finished: &[u32], room: usize) -> Room
 }
 
 fn put_ticks(buf: &mut [u8], released: &[u32], finished: &[u32]) -> usize
-    requires { ⌜ length (ticksText (now released) (now finished)) ≤ length (now buf) ⌝ }
-    ensures { λ r. ⌜ Put (now (buf .entry)) 0 (ticksText (now (released .entry)) (now (finished .entry))) r (now (buf .exit)) ⌝ }
+    requires { ⌜ length (reportsText (now released) (now finished)) ≤ length (now buf) ⌝ }
+    ensures { λ r. ⌜ Put (now (buf .entry)) 0 (reportsText (now (released .entry)) (now (finished .entry))) r (now (buf .exit)) ⌝ }
 {
     let n = fewer(released.len(), finished.len());
     let mut next = put_word(buf, 0, b"released,finished\r\n");
     let mut i: usize = 0;
     while i < n {
         let numbers = tick_numbers(released[i], finished[i]);
-        next = put_row(buf, next, numbers, 2);
+        next = put_row(buf, next, &numbers);
         i += 1;
     }
     next
@@ -483,7 +491,7 @@ fn put_ticks(buf: &mut [u8], released: &[u32], finished: &[u32]) -> usize
 
 // The ticks text of the sets released and finished, tick by tick, as many as both slices have.
 pub fn write_ticks(released: &[u32], finished: &[u32], buf: &mut [u8]) -> Written
-    ensures { λ r. ⌜ Wrote (ticksText (now (released .entry)) (now (finished .entry))) (now (buf .entry)) r (now (buf .exit)) ⌝ }
+    ensures { λ r. ⌜ Wrote (reportsText (now (released .entry)) (now (finished .entry))) (now (buf .entry)) r (now (buf .exit)) ⌝ }
 {
     let m = ticks_room(released, finished, buf.len());
     if !m.enough {
@@ -493,6 +501,7 @@ pub fn write_ticks(released: &[u32], finished: &[u32], buf: &mut [u8]) -> Writte
     Written::whole(end)
 }
 
+#[repr(C)]
 pub struct TextsWritten {
     pub refused: Refusal,
     pub platform: usize,
@@ -517,7 +526,7 @@ pub fn write_texts(t: Table, platform: &mut [u8], tasks: &mut [u8]) -> TextsWrit
 {
     let p = t.platform;
     let numbers = platform_numbers(p);
-    let first = one_room(b"cores,partitions\r\n", numbers, 2, platform.len());
+    let first = one_room(b"cores,partitions\r\n", &numbers, platform.len());
     if !first.enough {
         return TextsWritten::short();
     }
@@ -532,13 +541,6 @@ pub fn write_texts(t: Table, platform: &mut [u8], tasks: &mut [u8]) -> TextsWrit
         platform: a.length,
         tasks: b.length,
     }
-}
-
-// What is left of some room behind a row of the first numbers, so many as there are columns.
-pub fn line_room(numbers: [u64; 5], columns: usize, room: usize) -> Room
-    ensures { λ r. ⌜ r ≡ roomFor (line (take columns numbers)) room ⌝ }
-{
-    row_room(numbers, fewer(columns, 5), room)
 }
 
 // The word at a place of the buffer, if it has room there, and the place behind it.
@@ -556,16 +558,15 @@ pub fn add_word(buf: &mut [u8], at: usize, word: &[u8]) -> usize
 }
 
 // A row at a place of the buffer, if it has room there, and the place behind it.
-pub fn add_line(buf: &mut [u8], at: usize, numbers: [u64; 5], columns: usize) -> usize
-    ensures { λ r. ⌜ Added (now (buf .entry)) at (line (take columns numbers)) r (now (buf .exit)) ⌝ }
+pub fn add_line(buf: &mut [u8], at: usize, numbers: &[u64]) -> usize
+    ensures { λ r. ⌜ Added (now (buf .entry)) at (line (now (numbers .entry))) r (now (buf .exit)) ⌝ }
 {
     if buf.len() < at {
         return at;
     }
-    let n = fewer(columns, 5);
-    let m = row_room(numbers, n, buf.len() - at);
+    let m = line_room(numbers, buf.len() - at);
     if !m.enough {
         return at;
     }
-    put_row(buf, at, numbers, n)
+    put_row(buf, at, numbers)
 }

@@ -80,6 +80,13 @@ fn two(rng: &mut Rng, table: &Table, faults: u32) -> [Option<Vec<u8>>; 2] {
     [platform, tasks]
 }
 
+/// Texts of the three forms that belong together and have no fault, mostly of a table that is not refused.
+pub fn whole(rng: &mut Rng) -> [Vec<u8>; 3] {
+    let table = if rng.once_in(4) { table(rng) } else { states::busy_table(rng) };
+    let ticks = report_rows(rng, &table);
+    [write(&PLATFORM, &platform_rows(&table)), write(&TASKS, &task_rows(&table)), write(&TICKS, &ticks)]
+}
+
 /// Three texts that belong together; each may be spoiled, missing or too long.
 pub fn three(rng: &mut Rng) -> Three {
     let table = table(rng);
@@ -125,7 +132,7 @@ fn long(rng: &mut Rng, form: &Form) -> Vec<u8> {
     text
 }
 
-/// The longest text of a case: as much as the program `answers` has room for.
+/// The longest text of a case, so that one that doubles again and again ends.
 const ROOM: usize = 65_536;
 
 /// A text of the form, good or with up to three things wrong.

@@ -140,7 +140,7 @@ limited-requires c κs = let l = c .before .loop3 .inv .1 in limited-needs (l .g
 difference-requires : tie.Need-difference-requires Inv-loop μ-loop Inv-loop3 μ-loop3 Inv-loop2 μ-loop2
 difference-requires c κs =
     let l = c .before .before .loop3 .inv .1 in
-    (rw (c .limited .ensures, limit-is (l .good) (l .task) (l .measures)) (limit-small (l .good) _ (l .task)), omega (arith, l .small, l .good .few))
+    (rw (c .limited .ensures, limit-is (l .good) (l .task) (l .measures)) (limit-small (l .good) _ (l .task)), omega (arith, l .small, l .good .sizes .few))
 
 mul-margins : tie.Need-mul-margins Inv-loop μ-loop Inv-loop3 μ-loop3 Inv-loop2 μ-loop2
 mul-margins c = search needs
@@ -171,7 +171,7 @@ loop2-again c =
     let is : toZ w64 (ofZ w64 (d .difference .result)) ≡ margin t (suc k) =
     toZ-ofZ {w = w64} (record { sfits = d .difference .ok }) ∙ (d .difference .ensures ∙ rw (top, sum)) in (
       search needs,
-      rw (is, o .loop2 .inv .1) (margins-more t k (omega (arith, l .good .few, l .task))),
+      rw (is, o .loop2 .inv .1) (margins-more t k (omega (arith, l .good .sizes .few, l .task))),
       c .first-with .ensures ∙ rw (is, o .loop2 .inv .2) (sym (lowest-more (λ j. not (passes t j)) k)),
       l .measures .most ∙ rw (add-one k),
       o .loop2 .inv .4,

@@ -10,7 +10,7 @@ use Rattle.machine.proofs.Machine.set_up.Symbol.{name as #work}
 use Rattle.machine.proofs.Machine.set_up.Met as work-thm
 use Rattle.gorsetumble.proofs.Renewed.{meets}
 use Rattle.gorsetumble.proofs.Rows.{TableOf}
-use Rattle.gorsetumble.proofs.Tables.{machine}
+use Rattle.lent.proofs.Machines.{machine}
 use Rattle.gorsetumble.proofs.table_of.Symbol as table-of-def
 use Rattle.gorsetumble.proofs.table_of.Symbol.{name as #table-of}
 use Rattle.gorsetumble.proofs.table_of.Met as table-of-thm

@@ -1,22 +1,23 @@
 use borrow.Author.Needs.{needs}
 use Prim.Native.Nat.{_-_, _<_}
-use mathlib.Core.Path.{_≡_, sym, ap, _∙_}
+use mathlib.Core.Path.{_≡_, refl, sym, ap, _∙_}
 use mathlib.Core.Logic.{⊎-elim}
 use native.Mathlib.Omega.{arith}
 use borrow.Author.Tests.{not-true, not-false}
 use lib.ListN.{length}
 use Rattle.forms.specs.Forms.{tasksForm}
 use Rattle.readers.specs.Inputs.{tableRead}
+use Rattle.readers.proofs.Rows.{row-narrow}
 use Rattle.readers.proofs.Texts.{head-bad}
 use Rattle.readers.proofs.Tasks.{Here, here-start, here-end, here-bad, here-far, here-kept, here-full}
 use Rattle.readers.proofs.read_tasks.Statement.{statement}
 use Rattle.readers.proofs.read_tasks.Tie as tie
 
 abbrev Inv-loop : tie.InvT-loop
-Inv-loop s platform at₀ rows₀ n₀ at rows n = Here s at rows n
+Inv-loop s platform at₀ rows₀ columns n₀ at rows n = Here s at rows n
 
 abbrev μ-loop : tie.MeasureT-loop
-μ-loop s platform at₀ rows₀ n₀ at rows n = length s - at
+μ-loop s platform at₀ rows₀ columns n₀ at rows n = length s - at
 
 slice-aggregate-agree-at : tie.Need-slice-aggregate-agree-at Inv-loop μ-loop
 slice-aggregate-agree-at c = search needs
@@ -40,23 +41,28 @@ loop-holds c =
     let args = c .before .before .before .before .before .args in
     rw (c .none .ensures) (here-start (args .s .now) _ (c .before .before .agree-at .ensures) (c .before .if1 .left))
 
+slice-aggregate-row-at : tie.Need-slice-aggregate-row-at Inv-loop μ-loop
+slice-aggregate-row-at c = search needs
+
 row-at-requires : tie.Need-row-at-requires Inv-loop μ-loop
-row-at-requires c κs = (c .before .loop .inv .line .inside, search needs)
+row-at-requires c κs = (c .before .before .loop .inv .line .inside, omega arith)
 
 bad-requires-2 : tie.Need-bad-requires-2 Inv-loop μ-loop
 bad-requires-2 c κs = search needs
 
 returns-2 : tie.Need-returns-2 Inv-loop μ-loop
 returns-2 c =
-    let k = c .before .before .before .before .before in
+    let x = c .before .before .before in
+    let k = x .before .before .before in
     let args = k .before .before .before .before .before .before .args in
-    let x = c .before .before .before .row-at in
     c .bad2 .ensures
     ∙ ap (tableRead (args .platform))
-    (sym (here-bad _ _ _ _ (k .loop .inv) (c .before .before .before .before .loop-test .taken) _ (x .ensures) (not-true _ (c .before .if2 .taken))))
+    (sym (here-bad _ _ _ _ (k .loop .inv) (x .before .before .loop-test .taken) _ (x .row-at .ensures) (not-true _ (c .before .if2 .taken))))
 
 task-of-requires : tie.Need-task-of-requires Inv-loop μ-loop
-task-of-requires c κs = search needs
+task-of-requires c κs =
+    let x = c .before .before .before .before in
+    row-narrow tasksForm 4 refl _ _ _ (x .row-at .ensures)
 
 mul-rows : tie.Need-mul-rows Inv-loop μ-loop
 mul-rows c = search needs
@@ -69,20 +75,20 @@ add-n c = search needs
 
 loop-less : tie.Need-loop-less Inv-loop μ-loop
 loop-less c =
-    let k = c .before .before .before .before .before .before in
-    let x = c .before .before .before .before .row-at in
-    let far = here-far _ _ _ _ (k .loop .inv) (c .before .before .before .before .before .loop-test .taken) _ (x .ensures) (not-false _ (c .before .before .if2 .left)) in
+    let x = c .before .before .before .before in
+    let k = x .before .before .before in
+    let far = here-far _ _ _ _ (k .loop .inv) (x .before .before .loop-test .taken) _ (x .row-at .ensures) (not-false _ (c .before .before .if2 .left)) in
     omega arith
 
 loop-again : tie.Need-loop-again Inv-loop μ-loop
 loop-again c =
-    let k = c .before .before .before .before .before .before in
-    let x = c .before .before .before .before .row-at in
-    let test = c .before .before .before .before .before .loop-test .taken in
+    let x = c .before .before .before .before in
+    let k = x .before .before .before in
+    let test = x .before .before .loop-test .taken in
     let good = not-false _ (c .before .before .if2 .left) in
     ⊎-elim
-    (λ w. rw (w .2) (here-kept _ _ _ _ (k .loop .inv) test _ (x .ensures) good (w .0 .taken) _ (w .1 .ensures)))
-    (λ w. rw (w .1) (here-full _ _ _ _ (k .loop .inv) test _ (x .ensures) good (w .0 .left)))
+    (λ w. rw (w .2) (here-kept _ _ _ _ (k .loop .inv) test _ (x .row-at .ensures) good (w .0 .taken) _ (w .1 .ensures)))
+    (λ w. rw (w .1) (here-full _ _ _ _ (k .loop .inv) test _ (x .row-at .ensures) good (w .0 .left)))
     (c .if3 .came)
 
 returns-3 : tie.Need-returns-3 Inv-loop μ-loop
@@ -103,6 +109,7 @@ read-tasks-spec =
     returns
     none-requires
     loop-holds
+    slice-aggregate-row-at
     row-at-requires
     bad-requires-2
     returns-2

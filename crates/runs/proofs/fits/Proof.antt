@@ -1,8 +1,9 @@
 use borrow.Author.Needs.{needs}
-use Prim.Native.Nat.{_+_, _*_, _≤_}
+use Prim.Native.Nat.{_≤_}
 use mathlib.Core.Path.{_≡_, sym, _∙_}
 use native.Mathlib.Omega.{arith}
 use borrow.Author.Tests.{leb-true, le-leb}
+use Rattle.runs.specs.Ticks.{listingMost}
 use Rattle.runs.proofs.Widths.{run-most, fits-by-room}
 use Rattle.runs.proofs.fits.Statement.{statement}
 use Rattle.runs.proofs.fits.Tie as tie
@@ -15,7 +16,7 @@ returns c =
     let k = c .before .before .before in
     let text = k .args .s .now in
     let count = k .pre .1 in
-    let room : 36 + 106 * k .args .count ≤ k .args .room = leb-true _ _ (sym (c .before .surely-fits .ensures) ∙ c .if1 .taken) in
+    let room : listingMost (k .args .count) ≤ k .args .room = leb-true _ _ (sym (c .before .surely-fits .ensures) ∙ c .if1 .taken) in
     sym (le-leb _ (k .args .room) (omega (arith, run-most text (k .args .m) (k .pre .0) (omega arith))))
 
 run-room-requires : tie.Need-run-room-requires

@@ -5,12 +5,12 @@ use mathlib.Core.Path.{_≡_, refl, ap, _∙_}
 use mathlib.Core.List.{List, _++_}
 use native.Mathlib.Omega.{arith}
 use denote.Ref.{now}
-use lib.ListN.{length, take}
+use lib.ListN.{length}
 use Rattle.forms.specs.Forms.{line}
-use Rattle.writers.specs.Written.{Put}
+use Rattle.writers.specs.Code.Put.{Put}
 use Rattle.writers.proofs.Added.{put-added}
 use Rattle.writers.proofs.Sequences.{Putting, putting-start, putting-more, putting-end, putting-room, put-then, put-room, put-length, first-fits}
-use Rattle.runs.specs.Runs.{ticksIn}
+use Rattle.runs.specs.Code.Runs.{ticksIn}
 use Rattle.runs.proofs.Runs.{header, toCome, run-split, Going, going-start, going-end, Gone, going-on}
 use Rattle.runs.proofs.put_run.Statement.{statement}
 use Rattle.runs.proofs.put_run.Tie as tie
@@ -47,16 +47,16 @@ head c =
     put-added _ _ _ _ _ (first-fits header (toCome (c .before .start .result) (ticksIn (args .s .now))) 0 _ (fits c)) (c .before .before .before .before .add-word .ensures)
 
 put : (c : tie.After-add-line Inv-loop μ-loop) →
-    let m = c .before .before .before in
+    let m = c .before .before .before .before in
     let k = m .before .before .before in
-    Put (k .loop .out) (k .loop .next) (line (take 5 (m .on .result .line))) (c .add-line .result) (c .add-line .last .0)
+    Put (k .loop .out) (k .loop .next) (line (m .on .result .line)) (c .add-line .result) (c .add-line .last .0)
 put c =
-    let m = c .before .before .before in
+    let m = c .before .before .before .before in
     let k = m .before .before .before in
     let on = gone m in
     let args = k .before .before .before .before .before .before .before .before .before .args in
     let room = put-room (toCome (k .before .start .result) (ticksIn (args .s .now))) (head k) (fits k) in
-    put-added _ _ _ _ _ (putting-room (k .loop .inv .3) (line (take 5 (m .on .result .line))) (toCome (m .on .result) (on .more)) (on .comes) room) (c .add-line .ensures)
+    put-added _ _ _ _ _ (putting-room (k .loop .inv .3) (line (m .on .result .line)) (toCome (m .on .result) (on .more)) (on .comes) room) (c .add-line .ensures)
 
 slice-aggregate-add-word : tie.Need-slice-aggregate-add-word Inv-loop μ-loop
 slice-aggregate-add-word c = search needs
@@ -77,19 +77,22 @@ on-requires c κs =
     let few = c .before .before .loop .inv .1 .few in
     omega arith
 
+slice-aggregate-add-line : tie.Need-slice-aggregate-add-line Inv-loop μ-loop
+slice-aggregate-add-line c = search needs
+
 add-line-requires : tie.Need-add-line-requires Inv-loop μ-loop
 add-line-requires c κs = search needs
 
 loop-less : tie.Need-loop-less Inv-loop μ-loop
 loop-less c =
-    let on = gone (c .before .before .before .before .before) in
+    let on = gone (c .before .before .before .before .before .before) in
     let far = on .far in
     let inside = on .inside in
     omega arith
 
 loop-again : tie.Need-loop-again Inv-loop μ-loop
 loop-again c =
-    let m = c .before .before .before .before .before in
+    let m = c .before .before .before .before .before .before in
     let k = m .before .before .before in
     let on = gone m in
     let row = put (c .before .before) in
@@ -118,6 +121,7 @@ put-run-spec =
     start-requires
     loop-holds
     on-requires
+    slice-aggregate-add-line
     add-line-requires
     loop-less
     loop-again

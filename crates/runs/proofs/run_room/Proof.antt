@@ -9,7 +9,7 @@ use lib.ListN.{length}
 use Rattle.writers.specs.Written.{roomFor}
 use Rattle.writers.proofs.Rooms.{room-none, room-more, room-halt}
 use Rattle.runs.specs.Ticks.{runText}
-use Rattle.runs.specs.Runs.{ticksIn, runStart}
+use Rattle.runs.specs.Code.Runs.{ticksIn, runStart}
 use Rattle.runs.proofs.Runs.{toCome, run-split, Going, going-start, going-end, Gone, going-on}
 use Rattle.runs.proofs.run_room.Statement.{statement}
 use Rattle.runs.proofs.run_room.Tie as tie
@@ -62,26 +62,29 @@ on-requires c κs =
     let few = c .before .before .loop .inv .1 .few in
     omega arith
 
+slice-aggregate-line-room : tie.Need-slice-aggregate-line-room Inv-loop μ-loop
+slice-aggregate-line-room c = search needs
+
 line-room-requires : tie.Need-line-room-requires Inv-loop μ-loop
 line-room-requires c κs = search needs
 
 returns-2 : tie.Need-returns-2 Inv-loop μ-loop
 returns-2 c =
-    let m = c .before .before .before .before in
+    let m = c .before .before .before .before .before in
     let k = m .before .before .before in
     room-halt _ _ _ _ (c .before .before .line-room .ensures) (not-true _ (c .if3 .taken))
     ∙ sym (whole k ∙ k .loop .inv .2 ∙ ap (λ (l : List ℕ). roomFor l (k .loop .left)) (gone m .comes))
 
 loop-less : tie.Need-loop-less Inv-loop μ-loop
 loop-less c =
-    let on = gone (c .before .before .before .before) in
+    let on = gone (c .before .before .before .before .before) in
     let far = on .far in
     let inside = on .inside in
     omega arith
 
 loop-again : tie.Need-loop-again Inv-loop μ-loop
 loop-again c =
-    let m = c .before .before .before .before in
+    let m = c .before .before .before .before .before in
     let k = m .before .before .before in
     let on = gone m in (
       on .more,
@@ -110,6 +113,7 @@ run-room-spec =
     start-requires
     loop-holds
     on-requires
+    slice-aggregate-line-room
     line-room-requires
     returns-2
     loop-less

@@ -1,7 +1,7 @@
-use Prim.Native.Nat.{_+_, _*_}
 use mathlib.Core.Path.{_≡_, sym}
 use native.Mathlib.Omega.{arith}
 use borrow.Author.Tests.{lt-leb}
+use Rattle.runs.specs.Ticks.{listingMost}
 use Rattle.runs.proofs.Widths.{fits-by-count}
 use Rattle.runs.proofs.surely_fits.Statement.{statement}
 use Rattle.runs.proofs.surely_fits.Tie as tie
@@ -9,7 +9,7 @@ use Rattle.runs.proofs.surely_fits.Tie as tie
 returns : tie.Need-returns
 returns c =
     let args = c .before .args in
-    sym (lt-leb (36 + 106 * args .count) (args .room) (omega arith))
+    sym (lt-leb (listingMost (args .count)) (args .room) (omega arith))
 
 returns-2 : tie.Need-returns-2
 returns-2 c =

@@ -4,7 +4,7 @@ use Prim.Native.Nat.{_≤_}
 use denote.Ref.{now}
 use lib.ListN.{length}
 use Rattle.runs.specs.Ticks.{runText}
-use Rattle.runs.specs.Runs.{ticksIn}
+use Rattle.runs.specs.Code.Runs.{ticksIn}
 use borrow.Author.Tests.{not-true, not-false, leb-true, leb-false}
 use Rattle.writers.proofs.Wholes.{wrote-short, wrote-put}
 use Rattle.runs.proofs.write_run.Statement.{statement}

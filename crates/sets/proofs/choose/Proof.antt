@@ -2,7 +2,7 @@ use Prim.Native.Nat.{_≤_, _<_, _-_}
 use mathlib.Core.Path.{_≡_, _∙_, refl}
 use native.Mathlib.Nat.{le-refl, le-trans}
 use native.Mathlib.Omega.{arith}
-use Rattle.sets.specs.Choice.{less}
+use Rattle.sets.specs.Code.Less.{less}
 use Rattle.sets.proofs.Lowest.{leaves, leaves-step, less-le, leaves-four, less-four, leaves-zero, taken, taken-all}
 use borrow.Author.Needs.{needs}
 use Rattle.sets.proofs.choose.Statement.{statement}
@@ -27,7 +27,7 @@ returns : tie.Need-returns Inv-loop μ-loop Inv-loop2 μ-loop2
 returns c =
     let l = c .before .before in
     let none : leaves (l .loop .rest) (l .loop .left) ≡ 0 = omega arith in
-    taken-all (l .before .args .idle) (l .before .args .a) (l .loop .inv .1 ∙ none)
+    taken-all (l .before .args .idle) (l .before .args .a .0) (l .loop .inv .1 ∙ none)
 
 less-requires : tie.Need-less-requires Inv-loop μ-loop Inv-loop2 μ-loop2
 less-requires c κs = search needs
@@ -78,8 +78,8 @@ returns-2 c =
     let l = c .before in
     let s = l .before .before .before .args in
     let ended : l .loop2 .left ≡ 0 = omega arith in
-    let left : leaves (s .idle) (s .a) ≡ l .loop2 .rest = l .loop2 .inv .1 ∙ rw ended (leaves-zero (l .loop2 .rest)) in
-    rw (← left) (taken (s .idle) (s .a))
+    let left : leaves (s .idle) (s .a .0) ≡ l .loop2 .rest = l .loop2 .inv .1 ∙ rw ended (leaves-zero (l .loop2 .rest)) in
+    rw (← left) (taken (s .idle) (s .a .0))
 
 pub choose-spec : {M : Type 1} → statement M
 choose-spec =

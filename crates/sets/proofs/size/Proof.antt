@@ -4,7 +4,7 @@ use Rattle.sets.proofs.size.Statement.{statement}
 use Rattle.sets.proofs.size.Tie as tie
 
 returns : tie.Need-returns
-returns c = count 64 (c .args .x) (search needs)
+returns c = rw (count 64 (c .args .x) (search needs))
 
 pub size-spec : {M : Type 1} → statement M
 size-spec = tie.close (tie.spec returns)

@@ -2,6 +2,7 @@ use Prim.Native.Nat.{_-_}
 use native.Mathlib.Omega.{arith}
 use borrow.Author.Needs.{needs}
 use borrow.Author.Tests.{lt-ltb, le-ltb}
+use Rattle.table.specs.Limits.{mostTasks}
 use Rattle.sets.proofs.Wheres.{shifted}
 use Rattle.sets.proofs.task_bit.Statement.{statement}
 use Rattle.sets.proofs.task_bit.Tie as tie
@@ -21,7 +22,7 @@ shl-result c = search needs
 returns-3 : tie.Need-returns-3
 returns-3 c =
     let k = c .before .before .args .k in
-    rw (shifted 32 (k - 1) (omega arith), le-ltb k 1 (omega arith), le-ltb 32 k (omega arith))
+    rw (shifted 32 (k - 1) (omega arith), le-ltb k 1 (omega arith), le-ltb mostTasks k (omega arith))
 
 pub task-bit-spec : {M : Type 1} → statement M
 task-bit-spec = tie.close (tie.spec returns returns-2 cast-result shl-result returns-3)

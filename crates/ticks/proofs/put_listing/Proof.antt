@@ -1,7 +1,9 @@
 use borrow.Author.Needs.{needs}
+use native.Mathlib.Nat.{le-trans}
 use mathlib.Core.Path.{_≡_, sym}
 use lib.Seq.{length-take-le}
-use Rattle.writers.proofs.Wholes.{wrote-inside}
+use Rattle.writers.proofs.Wholes.{wrote-inside, wrote-all}
+use Rattle.runs.proofs.Sizes.{ticks-fit}
 use Rattle.ticks.proofs.put_listing.Statement.{statement}
 use Rattle.ticks.proofs.put_listing.Tie as tie
 
@@ -43,8 +45,9 @@ ticks-requires c κs = search needs
 
 returns : tie.Need-returns
 returns c =
-    let inside = wrote-inside _ _ _ _ (c .ticks .ensures) in
-    (inside, sym (length-take-le _ _ inside))
+    let wrote = c .ticks .ensures in
+    let inside = wrote-inside _ _ _ _ wrote in
+    (wrote-all _ _ _ _ wrote (le-trans (ticks-fit _ _ _ _ _ _) (search needs)), (inside, sym (length-take-le _ _ inside)))
 
 pub put-listing-spec : {M : Type 1} → statement M
 put-listing-spec =

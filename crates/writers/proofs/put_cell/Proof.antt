@@ -7,7 +7,7 @@ use Rattle.forms.specs.Bytes.{comma}
 use Rattle.forms.specs.Digits.{digits}
 use Rattle.forms.specs.Forms.{ending, crlf}
 use Rattle.writers.proofs.Sequences.{put-then, put-room}
-use Rattle.writers.proofs.Rows.{ending-more}
+use Rattle.forms.proofs.Lines.{ending-more}
 use Rattle.writers.proofs.put_cell.Statement.{statement}
 use Rattle.writers.proofs.put_cell.Tie as tie
 

@@ -1,31 +1,30 @@
--- The loop's invariant: on the way through the row's text, the columns behind j are left of it.
+-- The loop's invariant: on the way through the row's text, the numbers behind j are left of it.
 use borrow.Author.Needs.{needs}
 use Prim.Native.Nat.{_+_, _-_, _≤_}
 use mathlib.Core.Path.{_≡_, refl, _∙_}
 use native.Mathlib.Omega.{arith}
-use lib.ListN.{length, take}
+use lib.ListN.{length, drop}
 use Rattle.forms.specs.Forms.{line}
-use Rattle.writers.proofs.Rows.{tail, piece, line-more, line-none}
+use Rattle.writers.proofs.Rows.{piece, line-more, line-none}
 use Rattle.writers.proofs.Sequences.{Putting, putting-start, putting-more, putting-end, putting-room, put-length}
 use Rattle.writers.proofs.put_row.Statement.{statement}
 use Rattle.writers.proofs.put_row.Tie as tie
 
--- The loop's invariant: on the way through the row's text, the columns behind j are left of it.
-
 abbrev Inv-loop : tie.InvT-loop
-Inv-loop buf₀ at columns numbers next₀ j₀ buf next j = (j ≤ columns) × (length buf ≡ length buf₀) × Putting buf₀ at (line (take columns numbers)) buf next (line (tail numbers columns j))
+Inv-loop buf₀ at numbers next₀ j₀ buf next j =
+    (j ≤ length numbers) × (length buf ≡ length buf₀) × Putting buf₀ at (line numbers) buf next (line (drop j numbers))
 
 abbrev μ-loop : tie.MeasureT-loop
-μ-loop buf₀ at columns numbers next₀ j₀ buf next j = columns - j
+μ-loop buf₀ at numbers next₀ j₀ buf next j = length numbers - j
 
 loop-holds : tie.Need-loop-holds Inv-loop μ-loop
-loop-holds c = (search needs, refl, putting-start)
+loop-holds c = (omega arith, refl, putting-start)
 
 mul-put-cell : tie.Need-mul-put-cell Inv-loop μ-loop
 mul-put-cell c = search needs
 
-array-read-put-cell : tie.Need-array-read-put-cell Inv-loop μ-loop
-array-read-put-cell c = search needs
+shared-slice-read-put-cell : tie.Need-shared-slice-read-put-cell Inv-loop μ-loop
+shared-slice-read-put-cell c = search needs
 
 sub-put-cell : tie.Need-sub-put-cell Inv-loop μ-loop
 sub-put-cell c = search needs
@@ -35,10 +34,10 @@ sub-put-cell-2 c = search needs
 
 put-cell-requires : tie.Need-put-cell-requires Inv-loop μ-loop
 put-cell-requires c κs =
-    let k = c .before .before in
-    let args = k .before .before .args in
-    let size : length (args .t3) ≡ 5 = search needs in
-    putting-room (k .loop .inv .2) (piece (args .t3) (args .columns) (k .loop .j)) _ (line-more (args .t3) (args .columns) (k .loop .j) (omega arith) (omega arith)) (k .before .before .pre .1)
+    let k = c .before .before .before in
+    let s = k .before .before .before in
+    let numbers = s .args .numbers .now in
+    putting-room (k .loop .inv .2) (piece numbers (k .loop .j)) _ (line-more numbers (k .loop .j) (omega arith)) (s .pre)
 
 add-j : tie.Need-add-j Inv-loop μ-loop
 add-j c = search needs
@@ -48,13 +47,12 @@ loop-less c = search needs
 
 loop-again : tie.Need-loop-again Inv-loop μ-loop
 loop-again c =
-    let k = c .before .before .before .before .before in
-    let args = k .before .before .args in
-    let size : length (args .t3) ≡ 5 = search needs in
+    let k = c .before .before .before .before .before .before in
+    let numbers = k .before .before .before .args .numbers .now in
     let put = c .before .before .put-cell .ensures in (
       search needs,
       put-length put ∙ k .loop .inv .1,
-      putting-more (k .loop .inv .2) (line-more (args .t3) (args .columns) (k .loop .j) (omega arith) (omega arith)) put,
+      putting-more (k .loop .inv .2) (line-more numbers (k .loop .j) (omega arith)) put,
     )
 
 same-length : tie.Need-same-length Inv-loop μ-loop
@@ -63,7 +61,7 @@ same-length c = c .before .loop .inv .1
 returns : tie.Need-returns Inv-loop μ-loop
 returns c =
     let k = c .before in
-    putting-end (k .loop .inv .2) (line-none _ _ _ (c .loop-test .left))
+    putting-end (k .loop .inv .2) (line-none _ _ (c .loop-test .left))
 
 pub put-row-spec : {M : Type 1} → statement M
 put-row-spec =
@@ -73,7 +71,7 @@ put-row-spec =
     μ-loop
     loop-holds
     mul-put-cell
-    array-read-put-cell
+    shared-slice-read-put-cell
     sub-put-cell
     sub-put-cell-2
     put-cell-requires

@@ -5,7 +5,7 @@ use mathlib.Core.Path.{_≡_, refl, sym, ap, _∙_}
 use mathlib.Core.List.{List, _++_}
 use native.Mathlib.Omega.{arith}
 use denote.Ref.{now}
-use lib.ListN.{length, take, length-append}
+use lib.ListN.{length, length-append}
 use Rattle.maths.proofs.Lists.{len-mapped}
 use Rattle.forms.specs.Forms.{tasksForm, crlf, line}
 use Rattle.table.specs.Limits.{mostTasks}
@@ -37,7 +37,7 @@ more : (c : tie.After-task-numbers Inv-loop μ-loop) →
     let k = c .before .before .before in
     let h = k .before .before .before .before .before .before in
     let t = h .before .before .args .t2 in
-    rowsFrom t (h .fewer .result) (k .loop .i) ≡ line (take 4 (c .task-numbers .result)) ++ rowsFrom t (h .fewer .result) (k .loop .i + 1)
+    rowsFrom t (h .fewer .result) (k .loop .i) ≡ line (c .task-numbers .result) ++ rowsFrom t (h .fewer .result) (k .loop .i + 1)
 more c =
     let k = c .before .before .before in
     let h = k .before .before .before .before .before .before in
@@ -68,14 +68,17 @@ element-copy-out-task c =
 task-numbers-requires : tie.Need-task-numbers-requires Inv-loop μ-loop
 task-numbers-requires c κs = search needs
 
+slice-aggregate-put-row : tie.Need-slice-aggregate-put-row Inv-loop μ-loop
+slice-aggregate-put-row c = search needs
+
 put-row-requires : tie.Need-put-row-requires Inv-loop μ-loop
 put-row-requires c κs =
-    let k = c .before .before .before .before in
+    let k = c .before .before .before .before .before in
     let h = k .before .before .before .before .before .before in
     let t = h .before .before .args .t2 in
     let n = h .fewer .result in
     let room = put-room (rowsFrom t n 0) (k .before .before .before .put-word .ensures) (fits h) in
-    (search needs, putting-room (k .loop .inv .2) (line (take 4 (c .before .task-numbers .result))) (rowsFrom t n (k .loop .i + 1)) (more (c .before)) room)
+    putting-room (k .loop .inv .2) (line (c .before .before .task-numbers .result)) (rowsFrom t n (k .loop .i + 1)) (more (c .before .before)) room
 
 add-i : tie.Need-add-i Inv-loop μ-loop
 add-i c = search needs
@@ -85,7 +88,7 @@ loop-less c = search needs
 
 loop-again : tie.Need-loop-again Inv-loop μ-loop
 loop-again c =
-    let m = c .before .before .before .before in
+    let m = c .before .before .before .before .before in
     let k = m .before .before .before in
     let put = c .before .before .put-row .ensures in
     (search needs, put-length put ∙ k .loop .inv .1, putting-more (k .loop .inv .2) (more m) put)
@@ -115,6 +118,7 @@ put-tasks-spec =
     mul-task
     element-copy-out-task
     task-numbers-requires
+    slice-aggregate-put-row
     put-row-requires
     add-i
     loop-less

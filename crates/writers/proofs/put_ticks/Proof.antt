@@ -5,9 +5,9 @@ use mathlib.Core.Path.{_≡_, refl, sym, ap, _∙_}
 use mathlib.Core.List.{List, _++_}
 use native.Mathlib.Omega.{arith}
 use denote.Ref.{now}
-use lib.ListN.{length, take, length-append}
+use lib.ListN.{length, length-append}
 use Rattle.forms.specs.Forms.{ticksForm, crlf, line}
-use Rattle.writers.specs.Outputs.{ticksText}
+use Rattle.writers.specs.Outputs.{reportsText}
 use Rattle.writers.proofs.Sequences.{Putting, putting-start, putting-more, putting-end, putting-room, put-then, put-room, put-length}
 use Rattle.writers.proofs.Ticks.{ticksFrom, ticks-split, ticks-more, ticks-end}
 use Rattle.writers.proofs.put_ticks.Statement.{statement}
@@ -28,7 +28,7 @@ more : (c : tie.After-tick-numbers Inv-loop μ-loop) →
     let k = c .before .before .before .before in
     let args = k .before .before .before .before .before .before .before .before .before .before .args in
     ticksFrom (args .released .now) (args .finished .now) (k .loop .i)
-    ≡ line (take 2 (c .tick-numbers .result)) ++ ticksFrom (args .released .now) (args .finished .now) (k .loop .i + 1)
+    ≡ line (c .tick-numbers .result) ++ ticksFrom (args .released .now) (args .finished .now) (k .loop .i + 1)
 more c =
     let k = c .before .before .before .before in
     let args = k .before .before .before .before .before .before .before .before .before .before .args in
@@ -68,17 +68,20 @@ shared-slice-read-tick-numbers-2 c =
 tick-numbers-requires : tie.Need-tick-numbers-requires Inv-loop μ-loop
 tick-numbers-requires c κs = search needs
 
+slice-aggregate-put-row : tie.Need-slice-aggregate-put-row Inv-loop μ-loop
+slice-aggregate-put-row c = search needs
+
 put-row-requires : tie.Need-put-row-requires Inv-loop μ-loop
 put-row-requires c κs =
-    let k = c .before .before .before .before .before in
+    let k = c .before .before .before .before .before .before in
     let s = k .before .before .before .before .before .before .before .before .before .before in
     let rest = ticksFrom (s .args .released .now) (s .args .finished .now) in
     let room = put-room (rest 0) (k .before .before .before .put-word .ensures) (fits s) in
-    (search needs, putting-room (k .loop .inv .2) (line (take 2 (c .before .tick-numbers .result))) (rest (k .loop .i + 1)) (more (c .before)) room)
+    putting-room (k .loop .inv .2) (line (c .before .before .tick-numbers .result)) (rest (k .loop .i + 1)) (more (c .before .before)) room
 
 add-i : tie.Need-add-i Inv-loop μ-loop
 add-i c =
-    let few = c .before .before .before .before .before .before .before .before .before .before .before .before .before .before .fewer .ensures in
+    let few = c .before .before .before .before .before .before .before .before .before .before .before .before .before .before .before .fewer .ensures in
     search needs
 
 loop-less : tie.Need-loop-less Inv-loop μ-loop
@@ -86,7 +89,7 @@ loop-less c = search needs
 
 loop-again : tie.Need-loop-again Inv-loop μ-loop
 loop-again c =
-    let m = c .before .before .before .before in
+    let m = c .before .before .before .before .before in
     let k = m .before .before .before .before in
     let put = c .before .before .put-row .ensures in
     (search needs, put-length put ∙ k .loop .inv .1, putting-more (k .loop .inv .2) (more m) put)
@@ -119,6 +122,7 @@ put-ticks-spec =
     mul-tick-numbers-2
     shared-slice-read-tick-numbers-2
     tick-numbers-requires
+    slice-aggregate-put-row
     put-row-requires
     add-i
     loop-less

@@ -60,18 +60,21 @@ element-copy-out-task c =
 task-numbers-requires : tie.Need-task-numbers-requires Inv-loop μ-loop
 task-numbers-requires c κs = search needs
 
-row-room-requires : tie.Need-row-room-requires Inv-loop μ-loop
-row-room-requires c κs = search needs
+slice-aggregate-line-room : tie.Need-slice-aggregate-line-room Inv-loop μ-loop
+slice-aggregate-line-room c = search needs
+
+line-room-requires : tie.Need-line-room-requires Inv-loop μ-loop
+line-room-requires c κs = search needs
 
 returns-2 : tie.Need-returns-2 Inv-loop μ-loop
 returns-2 c =
-    let k = c .before .before .before .before .before .before in
+    let k = c .before .before .before .before .before .before .before in
     let s = k .before .before .before .before .before .before in
     let n = k .before .fewer in
-    let numbers = c .before .before .before .task-numbers in
-    let less = c .before .before .before .before .before .loop-test .taken in
+    let numbers = c .before .before .before .before .task-numbers in
+    let less = c .before .before .before .before .before .before .loop-test .taken in
     let more = rows-more (s .args .t1) (rows-32 s) (n .result) (n .ensures) (k .loop .i) less (numbers .result) (numbers .ensures) in
-    room-halt _ _ _ _ (c .before .before .row-room .ensures) (not-true _ (c .if2 .taken))
+    room-halt _ _ _ _ (c .before .before .line-room .ensures) (not-true _ (c .if2 .taken))
     ∙ sym (k .loop .inv .1 ∙ ap (λ (l : List ℕ). roomFor l (k .loop .left)) more)
 
 add-i : tie.Need-add-i Inv-loop μ-loop
@@ -82,16 +85,16 @@ loop-less c = search needs
 
 loop-again : tie.Need-loop-again Inv-loop μ-loop
 loop-again c =
-    let k = c .before .before .before .before .before .before in
+    let k = c .before .before .before .before .before .before .before in
     let s = k .before .before .before .before .before .before in
     let n = k .before .fewer in
-    let numbers = c .before .before .before .task-numbers in
-    let less = c .before .before .before .before .before .loop-test .taken in
+    let numbers = c .before .before .before .before .task-numbers in
+    let less = c .before .before .before .before .before .before .loop-test .taken in
     let more = rows-more (s .args .t1) (rows-32 s) (n .result) (n .ensures) (k .loop .i) less (numbers .result) (numbers .ensures) in (
       search needs,
       k .loop .inv .1
           ∙ ap (λ (l : List ℕ). roomFor l (k .loop .left)) more
-          ∙ room-more _ _ _ _ (c .before .before .row-room .ensures) (not-false _ (c .if2 .left)),
+          ∙ room-more _ _ _ _ (c .before .before .line-room .ensures) (not-false _ (c .if2 .left)),
     )
 
 returns-3 : tie.Need-returns-3 Inv-loop μ-loop
@@ -116,7 +119,8 @@ tasks-room-spec =
     mul-task
     element-copy-out-task
     task-numbers-requires
-    row-room-requires
+    slice-aggregate-line-room
+    line-room-requires
     returns-2
     add-i
     loop-less

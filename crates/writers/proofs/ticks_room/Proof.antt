@@ -5,9 +5,8 @@ use mathlib.Core.Path.{_≡_, refl, sym, ap, _∙_}
 use mathlib.Core.List.{List, _++_}
 use native.Mathlib.Omega.{arith}
 use borrow.Author.Tests.{not-true, not-false}
-use lib.ListN.{length, take}
 use Rattle.forms.specs.Forms.{line}
-use Rattle.writers.specs.Outputs.{ticksText}
+use Rattle.writers.specs.Outputs.{reportsText}
 use Rattle.writers.specs.Written.{roomFor}
 use Rattle.writers.proofs.Rooms.{room-none, room-more, room-halt}
 use Rattle.writers.proofs.Ticks.{ticksFrom, ticks-split, ticks-more, ticks-end}
@@ -15,7 +14,7 @@ use Rattle.writers.proofs.ticks_room.Statement.{statement}
 use Rattle.writers.proofs.ticks_room.Tie as tie
 
 abbrev Inv-loop : tie.InvT-loop
-Inv-loop released finished room n left₀ i₀ left i = (i ≤ n) × (roomFor (ticksText released finished) room ≡ roomFor (ticksFrom released finished i) left)
+Inv-loop released finished room n left₀ i₀ left i = (i ≤ n) × (roomFor (reportsText released finished) room ≡ roomFor (ticksFrom released finished i) left)
 
 abbrev μ-loop : tie.MeasureT-loop
 μ-loop released finished room n left₀ i₀ left i = n - i
@@ -24,7 +23,7 @@ more : (c : tie.After-tick-numbers Inv-loop μ-loop) →
     let k = c .before .before .before .before in
     let args = k .before .before .before .before .before .before .before .before .args in
     ticksFrom (args .released .now) (args .finished .now) (k .loop .i)
-    ≡ line (take 2 (c .tick-numbers .result)) ++ ticksFrom (args .released .now) (args .finished .now) (k .loop .i + 1)
+    ≡ line (c .tick-numbers .result) ++ ticksFrom (args .released .now) (args .finished .now) (k .loop .i + 1)
 more c =
     let k = c .before .before .before .before in
     let args = k .before .before .before .before .before .before .before .before .args in
@@ -72,14 +71,17 @@ shared-slice-read-tick-numbers-2 c =
 tick-numbers-requires : tie.Need-tick-numbers-requires Inv-loop μ-loop
 tick-numbers-requires c κs = search needs
 
-row-room-requires : tie.Need-row-room-requires Inv-loop μ-loop
-row-room-requires c κs = search needs
+slice-aggregate-line-room : tie.Need-slice-aggregate-line-room Inv-loop μ-loop
+slice-aggregate-line-room c = search needs
+
+line-room-requires : tie.Need-line-room-requires Inv-loop μ-loop
+line-room-requires c κs = search needs
 
 returns-2 : tie.Need-returns-2 Inv-loop μ-loop
 returns-2 c =
-    let m = c .before .before .before in
+    let m = c .before .before .before .before in
     let k = m .before .before .before .before in
-    room-halt _ _ _ _ (c .before .before .row-room .ensures) (not-true _ (c .if2 .taken))
+    room-halt _ _ _ _ (c .before .before .line-room .ensures) (not-true _ (c .if2 .taken))
     ∙ sym (k .loop .inv .1 ∙ ap (λ (l : List ℕ). roomFor l (k .loop .left)) (more m))
 
 add-i : tie.Need-add-i Inv-loop μ-loop
@@ -90,12 +92,12 @@ loop-less c = search needs
 
 loop-again : tie.Need-loop-again Inv-loop μ-loop
 loop-again c =
-    let m = c .before .before .before in
+    let m = c .before .before .before .before in
     let k = m .before .before .before .before in (
       search needs,
       k .loop .inv .1
           ∙ ap (λ (l : List ℕ). roomFor l (k .loop .left)) (more m)
-          ∙ room-more _ _ _ _ (c .before .before .row-room .ensures) (not-false _ (c .if2 .left)),
+          ∙ room-more _ _ _ _ (c .before .before .line-room .ensures) (not-false _ (c .if2 .left)),
     )
 
 returns-3 : tie.Need-returns-3 Inv-loop μ-loop
@@ -122,7 +124,8 @@ ticks-room-spec =
     mul-tick-numbers-2
     shared-slice-read-tick-numbers-2
     tick-numbers-requires
-    row-room-requires
+    slice-aggregate-line-room
+    line-room-requires
     returns-2
     add-i
     loop-less

@@ -10,6 +10,9 @@ platform-numbers-requires c κs = search needs
 slice-aggregate-write-one : tie.Need-slice-aggregate-write-one
 slice-aggregate-write-one c = search needs
 
+slice-aggregate-write-one-2 : tie.Need-slice-aggregate-write-one-2
+slice-aggregate-write-one-2 c = search needs
+
 write-one-requires : tie.Need-write-one-requires
 write-one-requires c κs = search needs
 
@@ -18,7 +21,7 @@ same-length c = search needs
 
 returns : tie.Need-returns
 returns c =
-    let numbers = c .before .before .before .before .before .platform-numbers .ensures in
+    let numbers = c .before .before .before .before .before .before .platform-numbers .ensures in
     rw (one-text platformForm) (rw numbers at (c .before .before .write-one .ensures))
 
 pub write-platform-spec : {M : Type 1} → statement M
@@ -27,6 +30,7 @@ write-platform-spec =
     (tie.spec
     platform-numbers-requires
     slice-aggregate-write-one
+    slice-aggregate-write-one-2
     write-one-requires
     same-length
     returns)

@@ -14,13 +14,13 @@ use Rattle.writers.proofs.write_texts.Statement.{statement}
 use Rattle.writers.proofs.write_texts.Tie as tie
 
 measured : (c : tie.After-one-room) →
-    let args = c .before .before .before .before .before .before .args in
+    let args = c .before .before .before .before .before .before .before .args in
     c .one-room .result ≡ roomFor (platformText (args .t .platform)) (length (now (args .platform)))
 measured c =
-    let args = c .before .before .before .before .before .before .args in
+    let args = c .before .before .before .before .before .before .before .args in
     let room = length (now (args .platform)) in
     c .one-room .ensures
-    ∙ ap (λ (l : List ℕ). roomFor (platformForm .header ++ crlf ++ line l) room) (c .before .before .platform-numbers .ensures)
+    ∙ ap (λ (l : List ℕ). roomFor (platformForm .header ++ crlf ++ line l) room) (c .before .before .before .platform-numbers .ensures)
     ∙ ap (λ (l : List ℕ). roomFor l room) (sym (one-text platformForm (platformRow (args .t .platform))))
 
 platform-numbers-requires : tie.Need-platform-numbers-requires
@@ -28,6 +28,9 @@ platform-numbers-requires c κs = search needs
 
 slice-aggregate-one-room : tie.Need-slice-aggregate-one-room
 slice-aggregate-one-room c = search needs
+
+slice-aggregate-one-room-2 : tie.Need-slice-aggregate-one-room-2
+slice-aggregate-one-room-2 c = search needs
 
 one-room-requires : tie.Need-one-room-requires
 one-room-requires c κs = search needs
@@ -80,6 +83,7 @@ write-texts-spec =
     (tie.spec
     platform-numbers-requires
     slice-aggregate-one-room
+    slice-aggregate-one-room-2
     one-room-requires
     short-requires
     returns

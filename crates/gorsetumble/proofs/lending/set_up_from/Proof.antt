@@ -1,5 +1,5 @@
 -- A local machine is lent by `&mut` and the first rows of a local array as a `&[Task]`, each for a lifetime that the walk makes; `set_up` is called, the lifetimes end, and the machine is back at the last value that `set_up` ensures.
-use Prim.Native.Nat.{ℕ, _≤_, _<_, _^_, _*_, min}
+use Prim.Native.Nat.{ℕ, _<_, _^_, min}
 use mathlib.Core.Path.{_≡_, refl, sym, _∙_, ap}
 use mathlib.Core.List.{List, [], _∷_}
 use native.Mathlib.Omega.{arith}
@@ -17,7 +17,7 @@ use ghost.Atoms.{Atoms, sem}
 use contract.Monad.{Fun, fact}
 use contract.Running.{givenOf, tables, tablesOf}
 use sound.WpLaws.{fmOf, WpFn-mono}
-use types.Kit.{Given, ‵, raw, _⊛_, some, _$_, _∵_, !, qed, by, move, drop, keep, group, use1, split, split3, join, pick, rewrite, fsplit, fjoin, suffices, frame, done}
+use types.Kit.{Given, ‵, raw, _⊛_, some, _$_, _∵_, !, qed, by, move, drop, group, use1, split, join, pick, rewrite, fsplit, fjoin, suffices, frame, done}
 use types.Part.{agg}
 use types.Run.{look, init, forget, stop, from, load, addr, of-opd, and-then, no-more, assigns, land, returns, enter, alloc1, alloc0, params1, pass1, pass0, free1, free0}
 use denote.Array.{array-tells, array-lawful, array-makes}
@@ -40,16 +40,18 @@ use denote.Triple.Walked.{says, Stays, stay-none, walkOf, goes-none, ends-at, wa
 use Rattle.table.specs.declared.Platform.{Platform}
 use Rattle.table.specs.declared.Task.{Task}
 use Rattle.table.specs.declared.Refusal.{Refusal}
+use Rattle.table.specs.Tasks.{tableOf}
 use Rattle.machine.specs.declared.Machine.{Machine}
 use Rattle.machine.specs.declared.SetUp.{SetUp}
 use Rattle.machine.specs.Fresh.{setUp}
 use Rattle.machine.proofs.SetUp as S′
-use Rattle.gorsetumble.specs.Lent.{tableOf}
-use Rattle.gorsetumble.proofs.Data.{Data, row, val, vals, Fits, told, made, typed, two, both-fit}
+use Rattle.lent.proofs.Data.{Data, row, val, vals, Fits, told, made, typed, two, both-fit}
 use Rattle.gorsetumble.proofs.First.{first-length, first-same}
-use Rattle.gorsetumble.proofs.Lends.{ref-to, lends, tasks, all-vals, lends-local, local-back, lends-rows, rows-back}
-use Rattle.gorsetumble.proofs.Tables.{platform, task, refusal, machine, lent}
-use Rattle.gorsetumble.proofs.Walk.{calls-told, calls-plain}
+use Rattle.lent.proofs.Lends.{ref-to, lends-local, local-back}
+use Rattle.gorsetumble.proofs.Lends.{tasks, all-vals, lends-rows, rows-back}
+use Rattle.lent.proofs.Machines.{machine}
+use Rattle.gorsetumble.proofs.Tables.{platform, task, refusal, lent}
+use Rattle.lent.proofs.Walk.{calls-told, calls-plain}
 use Rattle.gorsetumble.proofs.gorsetumble_set_up as set-up
 use Rattle.gorsetumble.proofs.gorsetumble_set_up.Symbol as set-up-def
 use Rattle.gorsetumble.proofs.gorsetumble_set_up.Symbol.{name as #set-up}

@@ -1,13 +1,13 @@
 use borrow.Author.Needs.{needs}
-use Rattle.runs.specs.Runs.{runOn}
+use Rattle.runs.specs.Code.Runs.{runOn}
 use Rattle.runs.proofs.Run.on.Statement.{statement}
 use Rattle.runs.proofs.Run.on.Tie as tie
 
 tick-at-requires : tie.Need-tick-at-requires
 tick-at-requires c κs = search needs
 
-tick-requires : tie.Need-tick-requires
-tick-requires c κs = search needs
+ticked-requires : tie.Need-ticked-requires
+ticked-requires c κs = search needs
 
 counted-requires : tie.Need-counted-requires
 counted-requires c κs = search needs
@@ -29,14 +29,14 @@ unfolding runOn
 returns c =
     let t = c .before .before .before .before .before .before .before .before in
     let x = t .before .tick-at in
-    rw (c .before .before .before .before .counted .ensures, t .tick .ensures, x .ensures)
+    rw (c .before .before .before .before .counted .ensures, t .ticked .ensures, x .ensures)
 
 pub on-spec : {M : Type 1} → statement M
 on-spec =
     tie.close
     (tie.spec
     tick-at-requires
-    tick-requires
+    ticked-requires
     counted-requires
     cast-t11
     cast-t12

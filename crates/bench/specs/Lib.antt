@@ -1,4 +1,0 @@
-pub mod Rounds
-pub mod Tables
-pub mod Admission
-pub mod Ticks

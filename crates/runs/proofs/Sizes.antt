@@ -1,0 +1,54 @@
+-- What the program "ticks" writes has room in its buffer.
+use Prim.Native.Nat.{ℕ, _+_, _*_, _<_, _≤_}
+use mathlib.Core.Path.{_≡_, refl, sym, ap, _∙_}
+use mathlib.Core.Bool.{Bool, true, false, cond, _&&_}
+use mathlib.Core.List.{List}
+use native.Mathlib.Omega.{arith}
+use borrow.Author.Tests.{leb-true}
+use lib.Dec.{eqb, leb}
+use lib.ListN.{length}
+use Rattle.maths.proofs.Padded.{length-padded}
+use Rattle.maths.proofs.Tests.{both}
+use Rattle.forms.specs.Forms.{GoodRows, text, platformForm, tasksForm, ticksForm}
+use Rattle.forms.specs.Reads.{Answer, found, refused}
+use Rattle.forms.specs.Reader.{read}
+use Rattle.forms.proofs.Sizes.{text-least}
+use Rattle.forms.proofs.Theorem.{written}
+use Rattle.table.specs.declared.Table.{Table}
+use Rattle.table.specs.Limits.{mostTasks}
+use Rattle.table.specs.Refused.{refusal}
+use Rattle.table.specs.Tasks.{noTask}
+use Rattle.machine.specs.Fresh.{fresh}
+use Rattle.writers.specs.Outputs.{refusedText}
+use Rattle.texts.specs.Given.{given, longest, taken}
+use Rattle.texts.proofs.Given.{taken-found}
+use Rattle.texts.proofs.Sizes.{bad-most, table-most}
+use Rattle.runs.specs.Ticks.{runText, ran, ticksText, ticksMost, TicksFit}
+use Rattle.runs.proofs.Widths.{rows-most}
+
+module _ (there : Bool) (bytes : List ℕ) where
+  run-fits : (t : Table) (rows : List (List ℕ)) → taken ticksForm there bytes ≡ found rows → length (runText (fresh t) rows) ≤ ticksMost
+  run-fits t rows e =
+      let k = taken-found ticksForm there bytes rows e in
+      let w = written ticksForm bytes rows (k .0) in
+      let size = ap length (w .1) in
+      let least = text-least ticksForm rows (w .0 .each) in
+      omega (arith, k .1, rows-most rows (fresh t) (omega (arith, k .1)) (w .0 .each))
+
+  ran-fits : (t : Table) → length (t .rows) ≡ mostTasks → (x : Answer (List (List ℕ))) → taken ticksForm there bytes ≡ x → length (ran x t) ≤ ticksMost
+  ran-fits t len (refused k) e = omega (arith, bad-most ticksForm there bytes k e)
+  ran-fits t len (found rows) e = go (eqb (refusal t .number) 0)
+    where
+      go : (b : Bool) → length (cond b (runText (fresh t) rows) (refusedText (refusal t))) ≤ ticksMost
+      go true = run-fits t rows e
+      go false = omega (arith, table-most t len)
+
+pub ticks-fit : TicksFit
+unfolding ticksText
+ticks-fit pThere p tThere t kThere k = go (taken platformForm pThere p) refl (taken tasksForm tThere t) refl
+  where
+    go : (x : Answer (List (List ℕ))) → taken platformForm pThere p ≡ x → (y : Answer (List (List ℕ))) → taken tasksForm tThere t ≡ y
+        → length (given refusedText (ran (taken ticksForm kThere k)) x y) ≤ ticksMost
+    go (refused n) e y f = omega (arith, bad-most platformForm pThere p n e)
+    go (found rows) e (refused n) f = omega (arith, bad-most tasksForm tThere t n f)
+    go (found rows) e (found more) f = ran-fits kThere k _ (length-padded noTask mostTasks _) (taken ticksForm kThere k) refl

@@ -1,0 +1,15 @@
+pub mod StateLoops
+pub mod TickTurns
+pub mod TickRules
+pub mod TickLeft
+pub mod TickLook
+pub mod TickJudge
+pub mod TickFive
+pub mod TickStarts
+pub mod TickMoved
+pub mod TickReady
+pub mod TickWalk
+pub mod TickSteps
+pub mod TickCode
+pub mod TickLoops
+pub mod Determined

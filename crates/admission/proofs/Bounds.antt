@@ -1,5 +1,5 @@
 -- How large the parts of the test can be for a good table: everything fits 64 bits with room to spare.
-use Prim.Native.Nat.{ℕ, zero, suc, _+_, _-_, _*_, _/_, _^_, _<_, _≤_, max}
+use Prim.Native.Nat.{ℕ, zero, suc, _+_, _*_, _/_, _^_, _<_, _≤_, max}
 use mathlib.Core.Path.{_≡_, refl}
 use native.Mathlib.Nat.{mul-le-mul, div-le-self, max-le, le-trans, lt-of-le-of-lt}
 use native.Mathlib.Omega.{arith}
@@ -7,7 +7,7 @@ use lib.Dec.{lit<}
 use Rattle.table.specs.declared.Task.{Task}
 use Rattle.table.specs.declared.Table.{Table}
 use Rattle.table.specs.Limits.{mostCores, mostPartitions, longestPeriod}
-use Rattle.table.specs.Tasks.{M, P, τ, D, T, C, A}
+use Rattle.table.specs.Tasks.{P, τ, T, A}
 use Rattle.table.specs.Good.{Good, GoodRow}
 use Rattle.lives.specs.Report.{equation3, weightOf, limitOf}
 use Rattle.admission.specs.Test.{row, S, Amax, B, limit}

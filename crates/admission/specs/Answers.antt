@@ -1,7 +1,7 @@
 -- The two answers of document 01: full, with the margin of each task 1 to n and 0 beyond, and quick, with the verdict and the first task
 -- that does not pass. A refused table carries number and row, and all else is 0.
 use Prim.Native.Nat.{ℕ}
-use mathlib.Core.Bool.{true, false, cond}
+use mathlib.Core.Bool.{false, cond}
 use mathlib.Core.List.{List}
 use lib.Dec.{leb}
 use lib.IntN.{ℤ, pos}
@@ -11,27 +11,30 @@ use Rattle.table.specs.declared.Refusal.{Refusal}
 use Rattle.table.specs.Limits.{mostTasks}
 use Rattle.table.specs.Refused.{refusal, unrefused}
 use Rattle.admission.specs.declared.FullAnswer.{FullAnswer}
-use Rattle.admission.specs.declared.Judged.{Judged}
 use Rattle.admission.specs.declared.QuickAnswer.{QuickAnswer}
 use Rattle.admission.specs.Test.{margin, admitted, firstFailing}
 
 abbrev pub margins : Table → List ℤ
 margins t = tabulate mostTasks (λ k. cond (leb k (t .n)) (margin t k) (pos 0))
 
-abbrev pub judgement : Table → Judged
-judgement t = record { margins = margins t; first = firstFailing t }
+-- of a refused table
+abbrev pub fullRefused : Refusal → FullAnswer
+fullRefused refused = record { refused = refused; admitted = false; first = 0; margins = tabulate mostTasks (λ k. pos 0) }
+
+abbrev pub quickRefused : Refusal → QuickAnswer
+quickRefused refused = record { refused = refused; admitted = false; first = 0 }
 
 unfoldable pub fullAnswer : Table → FullAnswer
 fullAnswer t =
     cond (unrefused t)
     (record { refused = refusal t; admitted = admitted t; first = firstFailing t; margins = margins t })
-    (record { refused = refusal t; admitted = false; first = 0; margins = tabulate mostTasks (λ k. pos 0) })
+    (fullRefused (refusal t))
 
 unfoldable pub quickAnswer : Table → QuickAnswer
 quickAnswer t =
     cond (unrefused t)
     (record { refused = refusal t; admitted = admitted t; first = firstFailing t })
-    (record { refused = refusal t; admitted = false; first = 0 })
+    (quickRefused (refusal t))
 
 -- the full answer without its margins
 abbrev pub withoutMargins : FullAnswer → QuickAnswer

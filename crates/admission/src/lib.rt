@@ -3,12 +3,13 @@ ghost use mathlib.Core.Path.{_≡_};
 ghost use Prim.Native.Nat.{ℕ, suc, _+_, _-_, _*_, _^_, _<_, _≤_, max};
 ghost use mathlib.Core.Bool.{cond, not};
 ghost use Rattle.maths.specs.Tasks.{orElse};
-ghost use Rattle.table.specs.Good.{Good, GoodRow};
+ghost use Rattle.table.specs.Good.{GoodRow};
 ghost use Rattle.table.specs.Limits.{mostTasks, mostCores, mostPartitions, longestPeriod};
 ghost use Rattle.table.specs.Tasks.{D, C};
 ghost use Rattle.lives.specs.Report.{equation3, weightOf, limitOf};
-ghost use Rattle.admission.specs.Test.{row, less, above0, firstFailing};
-ghost use Rattle.admission.specs.Answers.{judgement, fullAnswer, quickAnswer};
+ghost use Rattle.admission.specs.Test.{row, less, above0};
+ghost use Rattle.admission.specs.Answers.{fullRefused, quickRefused, fullAnswer, quickAnswer};
+ghost use Rattle.admission.specs.Code.Judged.{fullJudged, quickJudged};
 use table::Cores;
 use table::Partitions;
 use table::Refusal;
@@ -28,11 +29,6 @@ struct Measures {
     most: Partitions,
     b: Partitions,
     s: u32,
-}
-
-struct Judged {
-    margins: [i64; Table::MOST],
-    first: usize,
 }
 
 #[repr(C)]
@@ -119,14 +115,76 @@ fn first_with(first: usize, k: usize, margin: i64) -> usize
     k + 1
 }
 
-// Every margin, and 0 beyond task n, with the first task that does not pass.
-fn judge(t: Table) -> Judged
-    requires { ⌜ Good t ⌝ }
-    ensures { λ r. ⌜ r ≡ judgement t ⌝ }
+// A refused table: all else is 0.
+fn full_refused(number: u32, row: usize) -> FullAnswer
+    ensures { λ r. ⌜ r ≡ fullRefused (record { number = number; row = row }) ⌝ }
+{
+    FullAnswer {
+        refused: Refusal {
+            number: number,
+            row: row,
+        },
+        admitted: false,
+        first: 0,
+        margins: [0i64; Table::MOST],
+    }
+}
+
+fn quick_refused(number: u32, row: usize) -> QuickAnswer
+    ensures { λ r. ⌜ r ≡ quickRefused (record { number = number; row = row }) ⌝ }
+{
+    QuickAnswer {
+        refused: Refusal {
+            number: number,
+            row: row,
+        },
+        admitted: false,
+        first: 0,
+    }
+}
+
+// A table that is not refused, from the first task that does not pass.
+fn full_judged(first: usize, margins: [i64; Table::MOST]) -> FullAnswer
+    ensures { λ r. ⌜ r ≡ fullJudged first margins ⌝ }
+{
+    FullAnswer {
+        refused: Refusal { number: 0, row: 0 },
+        admitted: first == 0,
+        first: first,
+        margins: margins,
+    }
+}
+
+fn quick_judged(failing: usize) -> QuickAnswer
+    ensures { λ r. ⌜ r ≡ quickJudged failing ⌝ }
+{
+    QuickAnswer {
+        refused: Refusal { number: 0, row: 0 },
+        admitted: failing == 0,
+        first: failing,
+    }
+}
+
+// The verdict, the first task that does not pass, and the margin of each task; or the refusal. A function that is handed a table copies it, so
+// that the loops stand here and hand on one row.
+pub fn full_answer(t: Table) -> FullAnswer
+    ensures { λ r. ⌜ r ≡ fullAnswer t ⌝ }
 {
     let n = t.n;
     let m = t.platform.cores;
     let p = t.platform.partitions;
+    let sizes = t.sizes_refused();
+    if sizes != 0 {
+        return full_refused(sizes, 0);
+    }
+    let mut row: usize = 0;
+    while row < n {
+        let number = t.rows[row].refused(p);
+        if number != 0 {
+            return full_refused(number, row + 1);
+        }
+        row += 1;
+    }
     let mut margins = [0i64; Table::MOST];
     let mut first: usize = 0;
     let mut most = Partitions(0);
@@ -146,21 +204,29 @@ fn judge(t: Table) -> Judged
         first = first_with(first, k, margin);
         k += 1;
     }
-    Judged {
-        margins: margins,
-        first: first,
-    }
+    full_judged(first, margins)
 }
 
-// The first task that does not pass, or 0: both loops are left at once where a load reaches its limit.
-fn first_failing(t: Table) -> usize
-    requires { ⌜ Good t ⌝ }
-    ensures { λ r. ⌜ r ≡ firstFailing t ⌝ }
+// The verdict and the first task that does not pass; or the refusal. Both loops are left at once where a load reaches its limit.
+pub fn quick_answer(t: Table) -> QuickAnswer
+    ensures { λ r. ⌜ r ≡ quickAnswer t ⌝ }
 {
     let n = t.n;
     let m = t.platform.cores;
     let p = t.platform.partitions;
-    let mut first: usize = 0;
+    let sizes = t.sizes_refused();
+    if sizes != 0 {
+        return quick_refused(sizes, 0);
+    }
+    let mut row: usize = 0;
+    while row < n {
+        let number = t.rows[row].refused(p);
+        if number != 0 {
+            return quick_refused(number, row + 1);
+        }
+        row += 1;
+    }
+    let mut answer = quick_judged(0);
     let mut most = Partitions(0);
     let mut k: usize = 0;
     'tasks: while k < n {
@@ -172,55 +238,12 @@ fn first_failing(t: Table) -> usize
         while i < n {
             load += term(m, x.b, x.s, t.rows[i]);
             if l <= load {
-                first = k + 1;
+                answer = quick_judged(k + 1);
                 break 'tasks;
             }
             i += 1;
         }
         k += 1;
     }
-    first
-}
-
-// The verdict, the first task that does not pass, and the margin of each task; or the refusal.
-pub fn full_answer(t: Table) -> FullAnswer
-    ensures { λ r. ⌜ r ≡ fullAnswer t ⌝ }
-{
-    let refused = t.refused();
-    if refused.number == 0 {
-        let j = judge(t);
-        let margins = j.margins;
-        return FullAnswer {
-            refused: refused,
-            admitted: j.first == 0,
-            first: j.first,
-            margins: margins,
-        };
-    }
-    FullAnswer {
-        refused: refused,
-        admitted: false,
-        first: 0,
-        margins: [0i64; Table::MOST],
-    }
-}
-
-// The verdict and the first task that does not pass; or the refusal.
-pub fn quick_answer(t: Table) -> QuickAnswer
-    ensures { λ r. ⌜ r ≡ quickAnswer t ⌝ }
-{
-    let refused = t.refused();
-    if refused.number == 0 {
-        let first = first_failing(t);
-        return QuickAnswer {
-            refused: refused,
-            admitted: first == 0,
-            first: first,
-        };
-    }
-    QuickAnswer {
-        refused: refused,
-        admitted: false,
-        first: 0,
-    }
+    answer
 }

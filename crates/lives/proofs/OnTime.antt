@@ -1,10 +1,10 @@
 -- What follows for one life from being on time, with no other task in sight: it stays in time, its job is never late, and no release finds it unfinished.
 use mathlib.Core.Path.{_≡_, refl}
 use mathlib.Core.Bool.{Bool, true, false}
-use Prim.Native.Nat.{ℕ, suc, _+_, _-_, _≤_, _<_, min}
+use Prim.Native.Nat.{ℕ, suc, _+_, _≤_, _<_}
 use native.Mathlib.Omega.{arith}
 use Rattle.lives.specs.Report.{Row, slack}
-use Rattle.lives.specs.Life.{Sound, Life, idle, waiting, running, age, ran, idles, waits, runs, up, rise, finish, WithinC, InTime, OnTime}
+use Rattle.lives.specs.Life.{Sound, Life, idle, waiting, running, age, ran, idles, waits, runs, rise, finish, WithinC, InTime, OnTime}
 use Rattle.lives.proofs.Steps.{Step, still-idle, released, released-started, still-waiting, started, still-running, finished, finished-released, finished-released-started}
 
 -- On time, but that a waiting job may be about to use up its slack.

@@ -3,8 +3,8 @@ use mathlib.Core.Path.{_≡_, refl, subst}
 use mathlib.Core.Bool.{Bool, true, false}
 use Prim.Native.Nat.{ℕ, suc, _+_, _-_, _≤_, _<_, min}
 use native.Mathlib.Omega.{arith}
-use Rattle.lives.specs.Report.{Row, slack}
-use Rattle.lives.specs.Life.{Sound, Life, idle, waiting, running, age, runs, up, rise, finish, release, start, Allowed, Next, WithinC, InTime, OnTime}
+use Rattle.lives.specs.Report.{Row}
+use Rattle.lives.specs.Life.{Sound, Life, idle, waiting, running, age, runs, up, rise, finish, release, start, Allowed, Next, WithinC}
 
 -- The nine outcomes.
 pub data Step (row : Row) (top : ℕ) : Life → Life → Type 0 where

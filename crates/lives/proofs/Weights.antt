@@ -1,7 +1,6 @@
 -- Many tasks, no time. S states that weigh `scale` each need more running than a test that is passed allows; and by the weights of theorem 2 a state in which M tasks run,
 -- or tasks that ask for B partitions, weighs M * B.
-use mathlib.Core.Path.{_≡_}
-use Prim.Native.Nat.{ℕ, _+_, _*_, _≤_, _<_, max}
+use Prim.Native.Nat.{ℕ, _*_, _≤_, _<_}
 use native.Mathlib.Omega.{arith}
 use native.Mathlib.Nat.{mul-le-mul-right, mul-le-mul-left, le-max-left, le-max-right}
 use Rattle.maths.specs.Sums.{sum, Σ}

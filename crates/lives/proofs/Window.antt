@@ -1,12 +1,11 @@
 -- How many of w states in a row of one life run.
-use mathlib.Core.Path.{_≡_}
 use Prim.Native.Nat.{ℕ, zero, suc, _+_, _*_, _/_, _≤_, _<_}
 use native.Mathlib.Omega.{arith}
 use native.Mathlib.Nat.{mul-le-mul-right, le-div-iff-mul-le}
 use Rattle.maths.proofs.Sums.{sum-zero, sum-suc}
 use Rattle.lives.specs.Report.{Row, equation3}
 use Rattle.lives.specs.Life.{Sound, Life, idle, waiting, running, runs, count, InRow, WithinC}
-use Rattle.lives.proofs.Steps.{Step, step, Facts, same, new, facts, rest, aged, stays-within}
+use Rattle.lives.proofs.Steps.{step, Facts, same, new, facts, rest, aged, stays-within}
 
 -- What n + 1 states, of which `run` run and the last is y, have shown. `A` bounds the carry-in, the work of the job that the first state has, and `Z`
 -- how long after its release that work can end.

@@ -1,6 +1,6 @@
 -- All that the theorem needs of a table, whichever test it passed: another test builds a `Safe` and changes nothing else here. And the table that a fresh machine keeps,
 -- which is zero past n, says the same of tasks 1 to n.
-use Prim.Native.Nat.{ℕ, zero, suc, _+_, _-_, _*_, _≤_}
+use Prim.Native.Nat.{ℕ, zero, suc, _*_, _≤_}
 use mathlib.Core.Path.{_≡_, refl, ap}
 use native.Mathlib.Omega.{arith}
 use lib.ListN.{length}

@@ -1,4 +1,3 @@
-use Prim.Native.Nat.{suc}
 use mathlib.Core.Path.{_≡_, sym, _∙_, ap}
 use mathlib.Core.Bool.{true, false}
 use native.Mathlib.Numerals.{add-one}

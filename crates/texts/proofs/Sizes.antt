@@ -1,12 +1,12 @@
 -- How long the listings are: a refusal carries small numbers, and so does a good table's margin.
 use Prim.Native.Nat.{ℕ, zero, suc, _+_, _*_, _^_, _<_, _≤_, suc-le-suc}
-use mathlib.Core.Path.{_≡_, refl, ap}
+use mathlib.Core.Path.{_≡_, refl, sym, ap, _∙_}
 use mathlib.Core.Bool.{Bool, true, false, cond, _&&_}
 use mathlib.Core.List.{List, [], _∷_, _++_}
 use native.Mathlib.Omega.{arith}
 use borrow.Author.Tests.{leb-true, le-leb, eqb-true}
-use lib.Dec.{leb}
-use lib.IntN.{ℤ, pos, negsuc}
+use lib.Dec.{eqb, leb}
+use lib.IntN.{ℤ, pos, negsuc, _-ℤ_}
 use lib.Signed.{mag}
 use lib.ListN.{length, getD, take, length-append, length-take}
 use lib.Seq.{getD-take}
@@ -17,7 +17,7 @@ use Rattle.maths.proofs.Padded.{length-padded}
 use Rattle.maths.proofs.Tests.{both}
 use Rattle.forms.specs.Digits.{digits, digitsIn}
 use Rattle.forms.specs.Forms.{Form, none, also, line, ending, platformForm, tasksForm}
-use Rattle.forms.specs.Reads.{Answer, found, refused}
+use Rattle.forms.specs.Reads.{Answer, found, refused, Reads}
 use Rattle.forms.specs.Reader.{read}
 use Rattle.forms.proofs.Digits.{width-one, width-most}
 use Rattle.forms.proofs.Sizes.{line-most}
@@ -30,6 +30,7 @@ use Rattle.table.specs.Tasks.{noTask}
 use Rattle.table.specs.Good.{Good}
 use Rattle.table.proofs.Good.{good-of}
 use Rattle.table.proofs.Refusals.{refusal-carries}
+use Rattle.admission.specs.declared.FullAnswer.{FullAnswer}
 use Rattle.admission.specs.Test.{load, limit, less, margin, admitted, firstFailing}
 use Rattle.admission.specs.Answers.{accepted, margins, fullAnswer}
 use Rattle.admission.proofs.Bounds.{load-small, limit-small}

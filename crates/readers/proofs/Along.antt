@@ -1,21 +1,20 @@
 -- The reader of a form, followed along a text by what stands at its places.
 use Prim.Native.Nat.{ℕ, zero, suc, _+_, _-_, _<_, _≤_}
 use mathlib.Core.Path.{_≡_, refl, sym, ap, _∙_}
-use mathlib.Core.Bool.{Bool, true, false, cond}
-use mathlib.Core.List.{List, [], _∷_, _++_}
+use mathlib.Core.Bool.{Bool, true, false}
+use mathlib.Core.List.{List, [], _∷_}
 use mathlib.Core.Option.{Option, none, some}
 use native.Mathlib.Numerals.{add-one}
 use native.Mathlib.Omega.{arith}
 use native.Mathlib.Decide.{decLt}
 use native.Mathlib.Nat.{add-zero, zero-add}
-use borrow.Author.Tests.{eq-eqb, ne-eqb, eqb-true, eqb-false}
+use borrow.Author.Tests.{eqb-true, eqb-false}
 use lib.Dec.{eqb}
-use lib.ListN.{length, drop, getD, drop-of-length-le, length-drop}
+use lib.ListN.{length, drop, getD, drop-of-length-le}
 use lib.Seq.{drop-cons}
-use Rattle.forms.specs.Bytes.{comma}
-use Rattle.forms.specs.Forms.{Form, crlf}
+use Rattle.forms.specs.Forms.{Form}
 use Rattle.forms.specs.Reads.{Answer, found, refused}
-use Rattle.forms.specs.Reader.{run, later, ended, keep, grow, State, word, cell, step, rowsAt, start, read}
+use Rattle.forms.specs.Reader.{run, later, ended, grow, State, word, cell, step, rowsAt, start, read}
 use Rattle.forms.proofs.Grow.{grown}
 use Rattle.forms.proofs.Runs.{stuck, moves}
 use Rattle.readers.specs.declared.Number.{Number}

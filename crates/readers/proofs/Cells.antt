@@ -1,21 +1,21 @@
 -- The reader of a form, followed over a number with what ends it, and over a whole row.
-use Prim.Native.Nat.{ℕ, zero, suc, _+_, _<_, _≤_}
+use Prim.Native.Nat.{ℕ, _+_, _<_, _≤_}
 use mathlib.Core.Path.{_≡_, refl, sym, ap, _∙_}
 use mathlib.Core.Bool.{Bool, true, false, cond}
-use mathlib.Core.List.{List, [], _∷_, _++_, append-assoc}
-use mathlib.Core.Option.{Option, none, some}
+use mathlib.Core.List.{List, [], _∷_, _++_}
+use mathlib.Core.Option.{none, some}
 use native.Mathlib.Numerals.{add-one}
 use native.Mathlib.Omega.{arith}
 use native.Mathlib.Decide.{decLt}
 use native.Mathlib.Nat.{add-zero}
 use borrow.Author.Tests.{eq-eqb, ne-eqb, eqb-true, eqb-false}
 use lib.Dec.{eqb}
-use lib.ListN.{length, drop, getD}
+use lib.ListN.{length, getD}
 use Rattle.maths.specs.Padded.{padded}
 use Rattle.forms.specs.Bytes.{comma}
 use Rattle.forms.specs.Forms.{ending, Form, crlf}
-use Rattle.forms.specs.Reads.{Answer, found, refused}
-use Rattle.forms.specs.Reader.{keep, grow, State, word, cell, leave, step, rowsAt}
+use Rattle.forms.specs.Reads.{refused}
+use Rattle.forms.specs.Reader.{grow, State, word, cell, leave, step, rowsAt}
 use Rattle.readers.specs.declared.Number.{Number}
 use Rattle.readers.specs.declared.Cell.{Cell}
 use Rattle.readers.specs.declared.Row.{Row}

@@ -1,6 +1,6 @@
 -- Laws of what stands at a place, for loops that go along the bytes.
-use Prim.Native.Nat.{ℕ, suc, _+_, _-_, _*_, _<_, _≤_}
-use mathlib.Core.Path.{_≡_, refl, sym, ap, _∙_}
+use Prim.Native.Nat.{ℕ, _+_, _-_, _*_, _<_, _≤_}
+use mathlib.Core.Path.{_≡_, refl, _∙_}
 use mathlib.Core.Bool.{Bool, true, false, cond, _&&_}
 use mathlib.Core.List.{List, [], _∷_}
 use mathlib.Core.Option.{Option, none, some, Option·getD}
@@ -13,7 +13,6 @@ use lib.Seq.{drop-cons}
 use Rattle.maths.proofs.Tests.{same-truth}
 use Rattle.forms.specs.Reader.{keep, isDigit, grow}
 use Rattle.readers.specs.declared.Grown.{Grown}
-use Rattle.readers.specs.declared.Number.{Number}
 use Rattle.readers.specs.Places.{agreeFrom, numberFrom, numberAt}
 use Rattle.readers.specs.Code.Digits.{grownTo}
 

@@ -4,16 +4,15 @@ use mathlib.Core.Path.{_≡_, refl, sym, ap, _∙_}
 use mathlib.Core.Bool.{true, false}
 use mathlib.Core.List.{List, [], _∷_, _++_}
 use lib.Dec.{lit<}
-use lib.ListN.{length, getD}
+use lib.ListN.{length}
 use Rattle.maths.specs.Padded.{padded}
 use Rattle.maths.proofs.Padded.{getD-padded}
 use Rattle.table.specs.declared.Platform.{Platform}
 use Rattle.table.specs.Refused.{noRefusal}
 use Rattle.forms.specs.Forms.{platformForm, crlf}
-use Rattle.forms.specs.Reads.{found, refused}
+use Rattle.forms.specs.Reads.{refused}
 use Rattle.forms.specs.Reader.{word, read}
 use Rattle.readers.specs.declared.Row.{Row}
-use Rattle.readers.specs.declared.PlatformRead.{PlatformRead}
 use Rattle.readers.specs.Inputs.{platformOf, platformRead}
 use Rattle.readers.specs.Places.{agreeAt, mostColumns, rowAt}
 use Rattle.readers.proofs.Along

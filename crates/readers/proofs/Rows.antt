@@ -1,6 +1,6 @@
 -- Laws of a number with what ends it, and of a row, for the loop over its columns; no reader goes past the text.
 use Prim.Native.Nat.{ℕ, zero, suc, _+_, _-_, _<_, _≤_}
-use mathlib.Core.Path.{_≡_, refl, sym, ap, subst, _∙_}
+use mathlib.Core.Path.{_≡_, sym, subst, _∙_}
 use mathlib.Core.Bool.{Bool, true, false, cond}
 use mathlib.Core.List.{List, [], _∷_, _++_, append-assoc, append-nil}
 use mathlib.Core.Option.{Option, none, some, Option·getD}
@@ -13,7 +13,6 @@ use lib.ListN.{length, drop, getD, replicate, length-drop, drop-of-length-le}
 use lib.Seq.{drop-cons}
 use Rattle.maths.specs.Padded.{padded}
 use Rattle.maths.proofs.Padded.{getD-padded}
-use Rattle.forms.specs.Bytes.{comma}
 use Rattle.forms.specs.Forms
 use Rattle.forms.specs.Forms.{Form, columns, largest, ending, Within}
 use Rattle.forms.specs.Reader.{grow}

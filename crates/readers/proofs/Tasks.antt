@@ -5,7 +5,7 @@ use mathlib.Core.Bool.{true, false}
 use mathlib.Core.List.{List, [], _∷_, _++_, map, map-append}
 use native.Mathlib.Omega.{arith}
 use lib.Dec.{lit<}
-use lib.ListN.{length, getD, set, replicate, length-map}
+use lib.ListN.{length, set, replicate, length-map}
 use Rattle.maths.specs.Padded.{padded}
 use Rattle.maths.proofs.Padded.{padded-none, padded-more, padded-full, getD-padded}
 use Rattle.table.specs.declared.Platform.{Platform}

@@ -1,16 +1,14 @@
 -- The reader of a form, followed over a whole text, line by line.
-use Prim.Native.Nat.{ℕ, suc, _+_, _<_, _≤_}
+use Prim.Native.Nat.{ℕ, _+_, _<_, _≤_}
 use mathlib.Core.Path.{_≡_, refl, sym, ap, _∙_}
 use mathlib.Core.Bool.{Bool, true, false}
 use mathlib.Core.List.{List, [], _∷_, _++_}
 use mathlib.Core.Option.{none}
 use native.Mathlib.Omega.{arith}
-use native.Mathlib.Nat.{zero-add, add-zero}
 use lib.ListN.{length, getD, length-append}
-use Rattle.maths.specs.Padded.{padded}
 use Rattle.forms.specs.Forms.{Form, columns, crlf}
-use Rattle.forms.specs.Reads.{Answer, found, refused}
-use Rattle.forms.specs.Reader.{later, State, word, cell, mayBegin, mayEnd, step, rowsAt, read}
+use Rattle.forms.specs.Reads.{found, refused}
+use Rattle.forms.specs.Reader.{State, word, cell, mayBegin, mayEnd, step, rowsAt, read}
 use Rattle.readers.specs.declared.Row.{Row}
 use Rattle.readers.specs.Places.{agreeAt, rowAt}
 use Rattle.readers.proofs.Rows.{agree-most, agree-inside, row-inside}

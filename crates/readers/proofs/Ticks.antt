@@ -1,9 +1,8 @@
 -- A ticks text, row by row: what is still to come of it from a line's beginning on.
-use Prim.Native.Nat.{ℕ, suc, _+_, _<_, _≤_}
+use Prim.Native.Nat.{ℕ, _+_, _<_, _≤_}
 use mathlib.Core.Path.{_≡_, refl, sym, ap, _∙_}
 use mathlib.Core.Bool.{Bool, true, false}
 use mathlib.Core.List.{List, [], _∷_, _++_}
-use mathlib.Core.Option.{none}
 use native.Mathlib.Omega.{arith}
 use native.Mathlib.Decide.{decLt}
 use lib.Dec.{lit<}
@@ -13,10 +12,9 @@ use Rattle.maths.proofs.Padded.{getD-padded}
 use Rattle.forms.specs.Bytes.{comma}
 use Rattle.forms.specs.Forms.{largest, columns, ticksForm, crlf}
 use Rattle.forms.specs.Reads.{Answer, found, refused}
-use Rattle.forms.specs.Reader.{run, later, word, cell, step, rowsAt, read}
+use Rattle.forms.specs.Reader.{run, later, word, step, rowsAt, read}
 use Rattle.forms.proofs.Shift.{prefixed, shift-run}
 use Rattle.readers.specs.declared.Number.{Number}
-use Rattle.readers.specs.declared.Tick.{Tick}
 use Rattle.readers.specs.Inputs.{tickOf, firstTick, tickAt}
 use Rattle.readers.specs.Places.{agreeAt, numberAt, cellAt, mostColumns, rowFrom, rowAt}
 use Rattle.readers.proofs.Along.{from}

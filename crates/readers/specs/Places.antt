@@ -1,7 +1,7 @@
 -- What stands at a place of a text: fixed bytes, a number, a number with what ends it, a row. Each is read as far as it goes, and
 -- says where that is.
 use Prim.Native.Nat.{ℕ, suc, _+_}
-use mathlib.Core.Bool.{Bool, true, false, cond}
+use mathlib.Core.Bool.{true, false, cond}
 use mathlib.Core.List.{List, [], _∷_, _++_}
 use mathlib.Core.Option.{Option, none, some, Option·getD}
 use lib.Dec.{eqb}

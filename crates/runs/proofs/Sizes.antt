@@ -1,17 +1,14 @@
 -- What the program "ticks" writes has room in its buffer.
-use Prim.Native.Nat.{ℕ, _+_, _*_, _<_, _≤_}
-use mathlib.Core.Path.{_≡_, refl, sym, ap, _∙_}
-use mathlib.Core.Bool.{Bool, true, false, cond, _&&_}
+use Prim.Native.Nat.{ℕ, _≤_}
+use mathlib.Core.Path.{_≡_, refl, ap}
+use mathlib.Core.Bool.{Bool, true, false, cond}
 use mathlib.Core.List.{List}
 use native.Mathlib.Omega.{arith}
-use borrow.Author.Tests.{leb-true}
-use lib.Dec.{eqb, leb}
+use lib.Dec.{eqb}
 use lib.ListN.{length}
 use Rattle.maths.proofs.Padded.{length-padded}
-use Rattle.maths.proofs.Tests.{both}
-use Rattle.forms.specs.Forms.{GoodRows, text, platformForm, tasksForm, ticksForm}
+use Rattle.forms.specs.Forms.{platformForm, tasksForm, ticksForm}
 use Rattle.forms.specs.Reads.{Answer, found, refused}
-use Rattle.forms.specs.Reader.{read}
 use Rattle.forms.proofs.Sizes.{text-least}
 use Rattle.forms.proofs.Theorem.{written}
 use Rattle.table.specs.declared.Table.{Table}
@@ -20,7 +17,7 @@ use Rattle.table.specs.Refused.{refusal}
 use Rattle.table.specs.Tasks.{noTask}
 use Rattle.machine.specs.Fresh.{fresh}
 use Rattle.writers.specs.Outputs.{refusedText}
-use Rattle.texts.specs.Given.{given, longest, taken}
+use Rattle.texts.specs.Given.{given, taken}
 use Rattle.texts.proofs.Given.{taken-found}
 use Rattle.texts.proofs.Sizes.{bad-most, table-most}
 use Rattle.runs.specs.Ticks.{runText, ran, ticksText, ticksMost, TicksFit}

@@ -1,16 +1,14 @@
 -- What is written of a table is a good text, and reading it gives the table back.
-use Prim.Native.Nat.{ℕ, zero, suc, _<_, _≤_}
+use Prim.Native.Nat.{ℕ, _<_, _≤_}
 use mathlib.Core.Path.{_≡_, refl, sym, ap, _∙_}
 use mathlib.Core.Bool.{true, false}
 use mathlib.Core.List.{List, [], _∷_, map}
 use native.Mathlib.Omega.{arith}
 use native.Mathlib.Decide.{decLt}
-use lib.ListN.{length, take, getD, length-take, List·getD-eq-default}
+use lib.ListN.{length, take, getD, List·getD-eq-default}
 use lib.Seq.{ext-getD, getD-take, length-take-le, take-all}
-use Rattle.maths.specs.Padded.{padded}
 use Rattle.maths.proofs.Padded.{length-padded, getD-padded}
 use Rattle.forms.specs.Forms.{none, also, Form, EachRow, columns, GoodRows, platformForm, tasksForm, ticksForm}
-use Rattle.forms.specs.Reads.{found}
 use Rattle.forms.specs.Reader.{read}
 use Rattle.forms.proofs.Complete.{complete}
 use Rattle.table.specs.declared.Platform.{Platform}

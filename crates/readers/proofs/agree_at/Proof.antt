@@ -11,8 +11,6 @@ use Rattle.readers.proofs.agree_at.Tie as tie
 
 -- The loop's invariant: what is left of the word, against what is left of the text, ends where the whole does.
 
--- The loop's invariant: what is left of the word, against what is left of the text, ends where the whole does.
-
 abbrev Inv-loop : tie.InvT-loop
 Inv-loop s at word next₀ i₀ next i = (next ≤ length s) × (agreeAt s at word ≡ agreeFrom next (drop i word) (drop next s))
 

@@ -1,9 +1,8 @@
 use Prim.Native.Nat.{_≤_}
-use mathlib.Core.Path.{_≡_, refl, sym}
+use mathlib.Core.Path.{_≡_, sym}
 use native.Mathlib.Omega.{arith}
 use lib.ListN.{length}
-use Rattle.forms.specs.Forms.{ending}
-use Rattle.readers.specs.Places.{numberAt, cellAt}
+use Rattle.readers.specs.Places.{numberAt}
 use Rattle.forms.proofs.Lines.{ending-more}
 use Rattle.readers.proofs.Rows.{number-inside, cell-none, cell-some}
 use borrow.Author.Needs.{needs}

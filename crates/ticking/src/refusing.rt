@@ -71,10 +71,6 @@ pub(crate) fn number_of(task: Task, j: Job, released: bool, finished: bool) -> u
     if given_11(task, j, finished) {
         return 11;
     }
-    // 12 and 13 are of released tasks: asked once for both.
-    if !released {
-        return 0;
-    }
     if given_12(task, j, released) {
         return 12;
     }

@@ -161,7 +161,7 @@ impl Walk {
         w.job = job;
         let cores = Cores(self.cores.0 - 1);
         w.cores = cores;
-        w.idle = sets::without(self.idle, held);
+        w.idle = self.idle - held;
         let partitions = Partitions(self.partitions.0 - task.a.0);
         w.partitions = partitions;
         w.late = late;

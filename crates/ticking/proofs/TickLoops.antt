@@ -12,7 +12,7 @@ use lib.ListN.{length, getD, set}
 use Rattle.maths.proofs.Arrays.{up-more, up-past}
 use Rattle.table.specs.declared.Refusal.{Refusal}
 use Rattle.table.specs.Limits.{mostTasks, mostPartitions, longestPeriod}
-use Rattle.table.specs.Tasks.{P, τ}
+use Rattle.table.specs.Tasks.{P, τ, D, T}
 use Rattle.machine.specs.declared.Job.{Job}
 use Rattle.ticking.specs.declared.Look.{Look}
 use Rattle.machine.specs.declared.Machine.{Machine}
@@ -23,7 +23,7 @@ use Rattle.machine.specs.Conditions.{goodState}
 use Rattle.ticking.specs.Code.Passes.{lookStart, lookWith, pastStart, pastWith, pastNone, foundGood, foundRefusal, walkStart, walkWith}
 use Rattle.machine.specs.Tick.{tickRefusal, accepted, tick}
 use Rattle.machine.proofs.StateTest.{state-good}
-use Rattle.ticking.proofs.TickTurns.{good-ran, good-age}
+use Rattle.ticking.proofs.TickTurns.{good-ran, good-age, good-deadline}
 use Rattle.ticking.proofs.TickLook.{lookTo, look-none, look-more, look-partitions, look-small, Looked}
 use Rattle.ticking.proofs.TickJudge.{zeroTo, zero-none, zero-more, found-good, found-looked, found-refusal}
 use Rattle.ticking.proofs.TickWalk.{walk-none, walk-more}
@@ -109,10 +109,10 @@ module _ (m : Machine) (released finished : ℕ) where
       here : getD jobs i noJob ≡ job m (suc i)
       here = rw (v .stored) (up-past mostTasks (λ k. turnsOf m released finished k .job) (job m) i i noJob (omega arith) (omega arith))
 
-      pub moving-turn : (getD jobs i noJob .ran ≤ longestPeriod) × (getD jobs i noJob .age ≤ longestPeriod)
+      pub moving-turn : (getD jobs i noJob .ran ≤ longestPeriod) × (getD jobs i noJob .age ≤ longestPeriod) × (D (τ (m .table) (suc i)) ≤ T (τ (m .table) (suc i)))
       moving-turn =
           let a = moves m released finished (v .rows) i (rw (v .turns) at l) in
-          rw here (good-ran (a .0 .good) i (a .1), good-age (a .0 .good) i (a .1))
+          rw here (good-ran (a .0 .good) i (a .1), good-age (a .0 .good) i (a .1), good-deadline (a .0 .good) i (a .1))
 
       pub moving-more : (next : Walk) → next ≡ walkWith (i + 1) (τ (m .table) (suc i)) (getD jobs i noJob) released finished walk
           → Moving refused moved (set jobs i (next .job)) next (i + 1)

@@ -1,11 +1,11 @@
 -- Laws for the functions that a tick's passes call for one task.
-use Prim.Native.Nat.{ℕ, suc, _+_, _/_, _^_, _<_, _≤_}
+use Prim.Native.Nat.{ℕ, suc, _+_, _/_, _^_, _<_, _≤_, min}
 use mathlib.Core.Path.{_≡_, refl, sym, _∙_, ap}
 use mathlib.Core.Bool.{Bool, true, false, cond, _&&_, and-assoc, and-false}
 use native.Mathlib.Nat.{div-eq-of-lt, div-lt-iff-lt-mul}
 use native.Mathlib.Omega.{arith}
 use native.Mathlib.Decide.{ℕ-discrete, decLt}
-use borrow.Author.Tests.{ne-eqb, eqb-true, lt-ltb, le-ltb}
+use borrow.Author.Tests.{eq-eqb, ne-eqb, eqb-true, lt-ltb, le-ltb}
 use lib.Bits.{bitOr, or-zero-l, or-zero-r, or-add-and, and-le-r}
 use lib.Dec.{ltb, eqb}
 use lib.Pow.{pow-pos}
@@ -24,6 +24,7 @@ use Rattle.machine.specs.declared.Machine.{Machine}
 use Rattle.ticking.specs.declared.Past.{Past}
 use Rattle.machine.specs.Jobs.{isIdle, isWaiting, isRunning, job}
 use Rattle.machine.specs.Conditions.{isNoTask, isNoJob, hasNothing, idlesWell, runsWell, goodStage, goodJob}
+use Rattle.machine.specs.Code.Readied.{finishedJob}
 use Rattle.ticking.specs.Code.Passes.{orTask, orJob, pastWith, pastNone, admits, coresAnd}
 use Rattle.machine.proofs.StateParts.{waiting-is, running-is, ByStage, is-idle, is-waiting, is-running, GoodState}
 use Rattle.machine.proofs.StateTest.{job-good}
@@ -124,9 +125,24 @@ admitted-ran p τ j l e =
     let good = both (l .good && eqb (rowRefusal p τ) 0) _ (all .0) in
     ran-of τ j (good-row p τ (eqb-true _ _ (both (l .good) _ (good .0) .1))) (j .stage) (job-good p τ j (good .1) .stage)
 
+-- an age that rises by 1, held at t, is d where it rose to d, if d is not above t
+pub rose : (a d t : ℕ) → d ≤ t → eqb (a + 1) d ≡ (eqb (a + 1) d && eqb (min (a + 1) t) d)
+rose a d t l = by (eqb (a + 1) d) refl
+  where
+    by : (b : Bool) → eqb (a + 1) d ≡ b → b ≡ (b && eqb (min (a + 1) t) d)
+    by true e = let is : a + 1 ≡ d = eqb-true (a + 1) d e in sym (eq-eqb (min (a + 1) t) d (omega arith))
+    by false e = refl
+
+pub finished-age : (τ : Task) (finished : Bool) (j : Job) → finishedJob τ finished j .age ≡ min (j .age + 1) (T τ)
+finished-age τ true j = refl
+finished-age τ false j = refl
+
 module _ {m : Machine} (g : GoodState m) (i : ℕ) (l : i < m .table .n) where
   pub good-ran : job m (suc i) .ran ≤ longestPeriod
   good-ran = ran-of (τ (m .table) (suc i)) (job m (suc i)) (g .table .row i l) (job m (suc i) .stage) (g .each i l .stage)
 
   pub good-age : job m (suc i) .age ≤ longestPeriod
   good-age = let a = g .each i l .age in let r = g .table .row i l in omega arith
+
+  pub good-deadline : D (τ (m .table) (suc i)) ≤ T (τ (m .table) (suc i))
+  good-deadline = g .table .row i l .deadline

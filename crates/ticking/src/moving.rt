@@ -3,6 +3,7 @@ ghost use mathlib.Core.Path.{_≡_};
 ghost use mathlib.Core.Bool.{true, cond};
 ghost use Prim.Native.Nat.{_+_, _≤_, min};
 ghost use Rattle.table.specs.Limits.{longestPeriod};
+ghost use Rattle.table.specs.Tasks.{D, T};
 ghost use Rattle.machine.specs.Jobs.{isRunning};
 ghost use Rattle.machine.specs.Steps.{older, awaiting, fitsIn};
 ghost use Rattle.machine.specs.Code.Readied.{finishedJob};
@@ -76,22 +77,19 @@ fn released_job(j: Job, released: bool) -> Job
     j
 }
 
-// Step 3, of a job that steps 1 and 2 left as it is given, and whose age was `before`.
+// Step 3, of a job that steps 1 and 2 left as it is given, and whose age was `before`: an age that rose to D is D, for D is not above T.
 fn is_late(task: Task, before: u32, j: Job) -> bool
-    requires { ⌜ before ≤ longestPeriod ⌝ }
+    requires { ⌜ (before ≤ longestPeriod) × (D task ≤ T task) × (j .age ≡ min (before + 1) (T task)) ⌝ }
     ensures { λ r. ⌜ r ≡ isLate task before j ⌝ }
 {
     if j.stage.is_idle() {
         return false;
     }
-    if before + 1 != task.d {
-        return false;
-    }
-    j.age == task.d
+    before + 1 == task.d
 }
 
 fn late_with(k: usize, task: Task, before: u32, j: Job, late: u32) -> u32
-    requires { ⌜ before ≤ longestPeriod ⌝ }
+    requires { ⌜ (before ≤ longestPeriod) × (D task ≤ T task) × (j .age ≡ min (before + 1) (T task)) ⌝ }
     ensures { λ r. ⌜ r ≡ lateWith k task before j late ⌝ }
 {
     if is_late(task, before, j) {
@@ -195,7 +193,7 @@ impl Walk {
 
     // Task k more.
     pub(crate) fn with(self, k: usize, task: Task, j: Job, released: u32, finished: u32) -> Walk
-        requires { ⌜ (j .ran ≤ longestPeriod) × (j .age ≤ longestPeriod) ⌝ }
+        requires { ⌜ (j .ran ≤ longestPeriod) × (j .age ≤ longestPeriod) × (D task ≤ T task) ⌝ }
         ensures { λ r. ⌜ r ≡ walkWith k task j released finished self ⌝ }
     {
         if is_left(j, released | finished, k) {

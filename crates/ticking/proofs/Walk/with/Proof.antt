@@ -1,6 +1,8 @@
-use mathlib.Core.Path.{sym, _∙_}
+use mathlib.Core.Path.{sym, ap, _∙_}
+use Rattle.machine.specs.declared.Job.{Job}
 use Rattle.ticking.specs.Code.Passes.{walkWith}
 use Rattle.ticking.proofs.TickLeft.{walk-left}
+use Rattle.ticking.proofs.TickTurns.{finished-age}
 use borrow.Author.Needs.{needs}
 use Rattle.ticking.proofs.Walk.with.Statement.{statement}
 use Rattle.ticking.proofs.Walk.with.Tie as tie
@@ -26,7 +28,9 @@ finished-job-requires : tie.Need-finished-job-requires
 finished-job-requires c κs = search needs
 
 late-with-requires : tie.Need-late-with-requires
-late-with-requires c κs = search needs
+late-with-requires c κs =
+    let s = c .before .before .before .before in
+    (s .pre .1, s .pre .2, ap (λ (x : Job). x .age) (c .finished-job .ensures) ∙ finished-age (s .args .task) (c .before .has-task .result) (s .args .j))
 
 has-task-requires-2 : tie.Need-has-task-requires-2
 has-task-requires-2 c κs = search needs

@@ -1,5 +1,6 @@
 use mathlib.Core.Path.{sym, _∙_}
-use borrow.Author.Tests.{eq-eqb, ne-eqb}
+use Rattle.table.specs.Tasks.{D, T}
+use Rattle.ticking.proofs.TickTurns.{rose}
 use borrow.Author.Needs.{needs}
 use Rattle.ticking.proofs.moving.is_late.Statement.{statement}
 use Rattle.ticking.proofs.moving.is_late.Tie as tie
@@ -10,16 +11,14 @@ is-idle-requires c κs = search needs
 returns : tie.Need-returns
 returns c = rw (sym (c .before .is-idle .ensures) ∙ c .if1 .taken)
 
-add-if2 : tie.Need-add-if2
-add-if2 c = search needs
+add-result : tie.Need-add-result
+add-result c = search needs
 
 returns-2 : tie.Need-returns-2
-returns-2 c = rw (sym (c .before .before .before .is-idle .ensures) ∙ c .before .before .if1 .left, ne-eqb _ _ (c .if2 .taken))
-
-returns-3 : tie.Need-returns-3
-returns-3 c =
-    let l = c .before .before .before .before in
-    rw (sym (l .before .is-idle .ensures) ∙ l .if1 .left, eq-eqb _ _ (c .before .before .if2 .left))
+returns-2 c =
+    let s = c .before .before .before in
+    rw (sym (c .before .before .is-idle .ensures) ∙ c .before .if1 .left, s .pre .2)
+    (rose (s .args .before) (D (s .args .task)) (T (s .args .task)) (s .pre .1))
 
 pub is-late-spec : {M : Type 1} → statement M
-is-late-spec = tie.close (tie.spec is-idle-requires returns add-if2 returns-2 returns-3)
+is-late-spec = tie.close (tie.spec is-idle-requires returns add-result returns-2)

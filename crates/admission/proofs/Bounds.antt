@@ -31,13 +31,13 @@ module _ {τ : Task} (g : GoodRow mostPartitions τ) where
   pub share-le : {m : ℕ} → m ≤ mostCores → m * A τ ≤ 1024
   share-le l = mul-le-mul {n₂ = 16} {m₂ = 64} l (g .room)
 
-  pub weight-le : {m b : ℕ} → m ≤ mostCores → b ≤ 65 → weightOf m b (A τ) ≤ 1024
+  pub weight-le : {m b : ℕ} → m ≤ mostCores → b ≤ mostPartitions + 1 → weightOf m b (A τ) ≤ 1024
   weight-le l h = max-le (omega arith) (share-le l)
 
-  pub term-le : {m b s : ℕ} → m ≤ mostCores → b ≤ 65 → s ≤ longestPeriod → weightOf m b (A τ) * equation3 s (row τ) ≤ mostTerm
+  pub term-le : {m b s : ℕ} → m ≤ mostCores → b ≤ mostPartitions + 1 → s ≤ longestPeriod → weightOf m b (A τ) * equation3 s (row τ) ≤ mostTerm
   term-le l h w = mul-le-mul {n₂ = 1024} {m₂ = 4294967295} (weight-le l h) (interference-le w)
 
-pub limit-le : {m b s : ℕ} → m ≤ mostCores → b ≤ 65 → s ≤ longestPeriod → limitOf m b s ≤ 68156400
+pub limit-le : {m b s : ℕ} → m ≤ mostCores → b ≤ mostPartitions + 1 → s ≤ longestPeriod → limitOf m b s ≤ 68156400
 limit-le l h w = mul-le-mul {n₂ = 1040} {m₂ = 65535} (mul-le-mul {n₂ = 16} {m₂ = 65} l h) w
 
 module _ {t : Table} (g : Good t) where
@@ -66,7 +66,7 @@ module _ {t : Table} (g : Good t) where
     pub S-le : S t (suc k) ≤ longestPeriod
     S-le = let r = g .row k lk in omega arith
 
-    pub B-le : B t (suc k) ≤ 65
+    pub B-le : B t (suc k) ≤ mostPartitions + 1
     B-le = omega (arith, g .sizes .partitions)
 
     pub limit-small : limit t (suc k) < 2 ^ 62

@@ -72,7 +72,7 @@ module _ {t : Table} (g : Good t) {k : ℕ} (l : k < t .n) where
     measured e most b s = record { most = omega (arith, Amax-suc g k); b = omega (arith, Amax-suc g k); s = s }
 
     module _ (m : Measured t k x) where
-      pub limited-needs : (M t ≤ mostCores) × (x .b .0 ≤ 65) × (x .s ≤ longestPeriod)
+      pub limited-needs : (M t ≤ mostCores) × (x .b .0 ≤ mostPartitions + 1) × (x .s ≤ longestPeriod)
       limited-needs = (g .sizes .cores, omega (arith, m .b, B-le g k l), omega (arith, m .s, S-le g k l))
 
       pub limit-is : limitOf (M t) (x .b .0) (x .s) ≡ limit t (suc k)
@@ -83,7 +83,7 @@ module _ {t : Table} (g : Good t) {k : ℕ} (l : k < t .n) where
       loading-none = record { good = g; task = l; measures = m; is = sym (load-none t (suc k)); small = omega arith }
 
 module _ {t : Table} {k : ℕ} {x : Measures} {load i : ℕ} (c : Loading t k x load i) (h : i < t .n) where
-  pub term-needs : (M t ≤ mostCores) × (x .b .0 ≤ 65) × (x .s ≤ longestPeriod) × GoodRow mostPartitions (τ t (suc i))
+  pub term-needs : (M t ≤ mostCores) × (x .b .0 ≤ mostPartitions + 1) × (x .s ≤ longestPeriod) × GoodRow mostPartitions (τ t (suc i))
   term-needs =
       let n = limited-needs (c .good) (c .task) (c .measures) in
       (n .0, n .1, n .2, row-good (c .good) i h)

@@ -58,7 +58,7 @@ fn weighs(m: Cores, b: Partitions, task: Task) -> u32
 
 // What a task adds to the load of one whose B is b and whose slack is s.
 fn term(m: Cores, b: Partitions, s: u32, task: Task) -> u64
-    requires { ⌜ (m .0 ≤ mostCores) × (b .0 ≤ 65) × (s ≤ longestPeriod) × GoodRow mostPartitions task ⌝ }
+    requires { ⌜ (m .0 ≤ mostCores) × (b .0 ≤ mostPartitions + 1) × (s ≤ longestPeriod) × GoodRow mostPartitions task ⌝ }
     ensures { λ r. ⌜ r ≡ weightOf (m .0) (b .0) (task .a .0) * equation3 s (row task) ⌝ }
 {
     let w = weighs(m, b, task);
@@ -67,7 +67,7 @@ fn term(m: Cores, b: Partitions, s: u32, task: Task) -> u64
 
 // The limit of a task whose B is b and whose slack is s.
 fn limited(m: Cores, b: Partitions, s: u32) -> u64
-    requires { ⌜ (m .0 ≤ mostCores) × (b .0 ≤ 65) × (s ≤ longestPeriod) ⌝ }
+    requires { ⌜ (m .0 ≤ mostCores) × (b .0 ≤ mostPartitions + 1) × (s ≤ longestPeriod) ⌝ }
     ensures { λ r. ⌜ r ≡ limitOf (m .0) (b .0) s ⌝ }
 {
     (m.0 as u64) * (b.0 as u64) * (s as u64)

@@ -16,8 +16,8 @@ use Rattle.admission.proofs.share_of.Statement.{statement}
 use Rattle.admission.proofs.share_of.Tie as tie
 
 -- of a table by value
-whole : (c : tie.Start) → length (c .args .t .rows) ≡ mostTasks
-whole c = search (len-mapped, needs)
+rows-32 : (c : tie.Start) → length (c .args .t .rows) ≡ mostTasks
+rows-32 c = search (len-mapped, needs)
 
 -- k is a task
 task : (c : tie.Else2) →
@@ -98,7 +98,7 @@ share-at-requires c κs =
     let k = task-is (c .before .before) in
     let i = other-is c in
     let none = sym (ap (λ (x : Refusal). x .number) (r .refused .ensures)) ∙ e .if1 .left in
-    (good-of t (whole (r .before)) none, omega (arith, k .0, k .1), omega (arith, i .0, i .1))
+    (good-of t (rows-32 (r .before)) none, omega (arith, k .0, k .1), omega (arith, i .0, i .1))
 
 returns-4 : tie.Need-returns-4
 returns-4 c =

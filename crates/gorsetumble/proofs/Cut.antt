@@ -32,7 +32,7 @@ module _ {M : Type 1} (𝓤 : URA M) (H : Heap 𝓤) (A : Atoms 𝓤) (W : Given
   uncut (suc n) [] o =
       qed W (‵ (row R q [] b o) ∷ ‵ (row R q [] b (place (mem R .size) (o + mem R .size) n)) ∷ []) ∵ Kit.drop ! $ done !
   uncut (suc n) (x ∷ xs) o =
-      qed W
-      (‵ (row R q (x ∷ take n xs) b o) ∷ ‵ (row R q (drop n xs) b (place (mem R .size) (o + mem R .size) n)) ∷ []) ∵
-      fsplit ! $ move ! (1 ∷ 2 ∷ []) $ use2 W (‵ (row R q xs b (o + mem R .size))) (uncut n xs (o + mem R .size)) $
+      qed W (‵ (row R q (x ∷ take n xs) b o) ∷
+      ‵ (row R q (drop n xs) b (place (mem R .size) (o + mem R .size) n)) ∷ []) ∵ fsplit ! $ move ! (1 ∷ 2 ∷ []) $
+      use2 W (‵ (row R q xs b (o + mem R .size))) (uncut n xs (o + mem R .size)) $
       move ! (1 ∷ 0 ∷ []) $ fjoin ! $ done !

@@ -66,10 +66,12 @@ module _ (N : Data) (f : Table → Value N) (#work : Name) where
     walk κ q p z p-fits room =
         qed W ((‵ (flft κ q) ⊛ ‵ ftrue) ∷ ‵ (owns (row platform ∷ ShrSlice (named 0) κ (row task) ∷ [])
         (p, (z, tt)) (vals platform p, (slice-vals z, tt))) ∷ []) ∵
-        enter ! (𝓣 .C) (𝓣 .Λ) function (val platform p ∷ slice-vals z) _ $ alloc1 ! (λ l₀. alloc1 ! (λ l₁. alloc1 !
-        (λ l₂. alloc1 ! (λ l₃. alloc0 ! $ params1 ! $ pass1 ! (init ! 4 refl (typed platform 𝓤 H A W p p-fits)) $
-        pass1 ! (init ! 2 refl (tt, (tt, (record { fits = room .0 }, tt)))) $ pass0 ! $ move ! (9 ∷ []) $ fsplit ! $
-        drop ! $ fsplit ! $ move ! (1 ∷ []) $ drop ! $ move ! (9 ∷ []) $ split ! $ move ! (1 ∷ []) $ drop ! $
+        enter ! (𝓣 .C) (𝓣 .Λ) function (val platform p ∷ slice-vals z) _ $
+        alloc1 ! (λ l₀. alloc1 ! (λ l₁. alloc1 ! (λ l₂. alloc1 ! (λ l₃. alloc0 ! $ params1 ! $
+        pass1 ! (init ! 4 refl (typed platform 𝓤 H A W p p-fits)) $
+        pass1 ! (init ! 2 refl (tt, (tt, (record { fits = room .0 }, tt)))) $ pass0 ! $
+        move ! (9 ∷ []) $ fsplit ! $ drop ! $ fsplit ! $ move ! (1 ∷ []) $ drop ! $ move ! (9 ∷ []) $ split ! $
+        move ! (1 ∷ []) $ drop ! $
         -- [the token; the lent row; _3; …; _2; …; _1; …; room for _0; …]
         calls-table 𝓤 H A mem run W κ q p z p-fits ! (fmOf 𝓤 H (W .laws) 𝓣) known-table
         (and-then ! (load ! (from ! (stop !)) (look ! 6 refl))

@@ -56,11 +56,13 @@ module _ {M : Type 1} {𝓤 : URA M} {H : Heap 𝓤} {A : Atoms 𝓤} {K : Type 
       (‵ (fat fullShare (tyArray (ty task) size) l 0 (only (all-vals xs))) ∷ Γ) G
   unfolding partOf
   opens-rows t size xs l fits = step (λ s.
-      use1 W (‵ (cellAt fullShare (tasks size .mir) (all-vals xs) l 0)) (W .laws .at-raw fullShare
-      (tyArray (ty task) size) l 0 (only (all-vals xs))) $ owned t (tasks size) (Is (tasks size))
-      (array-makes 𝓤 H A W (row task) (made task 𝓤 H A) size) xs (all-vals xs) fits $ move t (1 ∷ 0 ∷ []) $
-      fjoin t $ fpack t (List Val) (λ us. fsep (cellAt fullShare (tasks size .mir) us l 0) (tasks size .own xs us))
-      (all-vals xs) $ use1 W (‵ (arr-parts (shares (row task)) size .part fullShare xs l 0))
+      use1 W (‵ (cellAt fullShare (tasks size .mir) (all-vals xs) l 0))
+      (W .laws .at-raw fullShare (tyArray (ty task) size) l 0 (only (all-vals xs))) $
+      owned t (tasks size) (Is (tasks size)) (array-makes 𝓤 H A W (row task) (made task 𝓤 H A) size) xs
+      (all-vals xs) fits $ move t (1 ∷ 0 ∷ []) $ fjoin t $
+      fpack t (List Val)
+      (λ us. fsep (cellAt fullShare (tasks size .mir) us l 0) (tasks size .own xs us)) (all-vals xs) $
+      use1 W (‵ (arr-parts (shares (row task)) size .part fullShare xs l 0))
       (array-apart 𝓤 H A W (row task) fullShare tt size xs l 0) $ fsplit t $ Kit.drop t $ s)
 
   shuts-rows : K → (size : ℕ) (xs : List Task) (l : ℕ) → length xs ≡ size → (Is (tasks size) xs (all-vals xs)
@@ -68,12 +70,13 @@ module _ {M : Type 1} {𝓤 : URA M} {H : Heap 𝓤} {A : Atoms 𝓤} {K : Type 
       → Seq K W (‵ (index.row (row task) fullShare xs l 0) ∷ Γ) G
   unfolding partOf
   shuts-rows t size xs l len k =
-      feqI t ℕ (length xs) size len $ fjoin t $
-      use1 W (‵ (partAt (tasks size) fullShare xs l 0)) (array-whole 𝓤 H A W (row task) fullShare size xs l 0) $
-      fpick t (λ vs. fsplit t $ spelt t (tasks size) (Is (tasks size)) (shows 𝓤 H A (tasks size)) all-vals
+      feqI t ℕ (length xs) size len $ fjoin t $ use1 W (‵ (partAt (tasks size) fullShare xs l 0))
+      (array-whole 𝓤 H A W (row task) fullShare size xs l 0) $ fpick t (λ vs. fsplit t $
+      spelt t (tasks size) (Is (tasks size)) (shows 𝓤 H A (tasks size)) all-vals
       (array-tells (row task) (vals task) (told task) size) fullShare xs vs l 0 $
       use1 W (‵ (fat fullShare (tyArray (ty task) size) l 0 (only (all-vals xs))))
-      (W .laws .raw-at fullShare (tyArray (ty task) size) l 0 (only (all-vals xs))) $ move t (1 ∷ []) $
+      (W .laws .raw-at fullShare (tyArray (ty task) size) l 0 (only (all-vals xs))) $
+      move t (1 ∷ []) $
       facts t (tasks size) (Is (tasks size)) (shows 𝓤 H A (tasks size)) xs (all-vals xs) (λ fits. k fits))
 
 module _ {M : Type 1} {𝓤 : URA M} {H : Heap 𝓤} {A : Atoms 𝓤} {K : Type 0} {W : Given 𝓤 H A}

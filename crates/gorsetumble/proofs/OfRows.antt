@@ -65,9 +65,9 @@ module _ (N : Data) (f : Platform → List Task → Value N) where
           → ent 𝓤 (⋆ 𝓤 H A (‵ (flft κ q) ∷ ‵ (lent κ z) ∷ [])) (Post (val N r))
       exits W p-fits r fits e =
           qed W (‵ (flft κ q) ∷ ‵ (lent κ z) ∷ []) ∵
-          suffices ! _ (ends-at 𝓤 H A ended stayed clauses W y (val N r) r (tt, (tt, tt)) (tt, (tt, tt))) $
-          says ! e $ nothing ! $ move ! (1 ∷ 0 ∷ []) $ join ! $ frame ! $ nothing ! $ move ! (1 ∷ 0 ∷ []) $
-          fjoin ! $ owned ! (row platform) (Is (row platform)) (made platform 𝓤 H A) p _ p-fits $ fjoin ! $
+          suffices ! _ (ends-at 𝓤 H A ended stayed clauses W y (val N r) r (tt, (tt, tt)) (tt, (tt, tt))) $ says ! e $
+          nothing ! $ move ! (1 ∷ 0 ∷ []) $ join ! $ frame ! $ nothing ! $ move ! (1 ∷ 0 ∷ []) $ fjoin ! $
+          owned ! (row platform) (Is (row platform)) (made platform 𝓤 H A) p _ p-fits $ fjoin ! $
           owned ! (row N) (Is (row N)) (made N 𝓤 H A) r _ fits $ move ! (1 ∷ 0 ∷ []) $ done !
 
     -- the walk is taken to the contract

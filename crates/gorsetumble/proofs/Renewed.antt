@@ -116,12 +116,14 @@ module _ (T : Data) (ν : Sym) (D : Type 0) (refused : D → Refusal) (machine :
           (Post (val refusal (refused r)))
       exits r fits e =
           qed W (At-end T table refusal ν D refused machine one f #work 𝓤 H A W 𝓣 known-work κ q m Rest r) ∵
-          move ! (3 ∷ []) $ split ! $ move ! (2 ∷ 3 ∷ 4 ∷ []) $ suffices ! _ (ends-at 𝓤 H A ended stayed (clauses 𝓤) W y
-          (val refusal (refused r)) (refused r) (machine r, (tt, (tt, tt))) (tt, (tt, (tt, tt)))) $ says !
-          (ap refused e, ap machine e) $ nothing ! $ move ! (4 ∷ 0 ∷ []) $ join ! $ move ! (3 ∷ 0 ∷ []) $ join ! $
-          frame ! $ feqI ! (List Val) (ptr-vals m) (ptr-vals m) refl $ fjoin3 ! $ nothing ! $ move ! (2 ∷ 0 ∷ []) $
-          fjoin ! $ owned ! (row platform) (Is (row platform)) (made platform 𝓤 H A) p _ p-fits $ fjoin ! $
-          move ! (1 ∷ 0 ∷ []) $ fjoin ! $ owned ! (row refusal) (Is (row refusal)) (made refusal 𝓤 H A) (refused r) _
+          move ! (3 ∷ []) $ split ! $ move ! (2 ∷ 3 ∷ 4 ∷ []) $
+          suffices ! _ (ends-at 𝓤 H A ended stayed (clauses 𝓤) W y (val refusal (refused r)) (refused r)
+          (machine r, (tt, (tt, tt))) (tt, (tt, (tt, tt)))) $ says ! (ap refused e, ap machine e) $
+          nothing ! $ move ! (4 ∷ 0 ∷ []) $ join ! $ move ! (3 ∷ 0 ∷ []) $ join ! $ frame ! $
+          feqI ! (List Val) (ptr-vals m) (ptr-vals m) refl $ fjoin3 ! $
+          nothing ! $ move ! (2 ∷ 0 ∷ []) $ fjoin ! $ owned ! (row platform) (Is (row platform))
+          (made platform 𝓤 H A) p _ p-fits $ fjoin ! $ move ! (1 ∷ 0 ∷ []) $ fjoin ! $
+          owned ! (row refusal) (Is (row refusal)) (made refusal 𝓤 H A) (refused r) _
           (answer-fits T table refusal ν D refused machine one f #work r fits) $ move ! (1 ∷ 0 ∷ []) $ done !
 
       walk : ent 𝓤 (onEntry 𝓤 H A (ended .signature) (κ, (κ′, tt)) (q, (q′, tt)) (m, (p, (z, tt)))
@@ -132,9 +134,10 @@ module _ (T : Data) (ν : Sym) (D : Type 0) (refused : D → Refusal) (machine :
           ‵ (owns (MutRef (named 0) κ (row T) ∷ row platform ∷ ShrSlice (named 1) κ′ (row task) ∷ []) (m, (p, (z, tt)))
           (ptr-vals m, (vals platform p, (slice-vals z, tt)))) ∷ []) ∵
           enter ! (𝓣 .C) (𝓣 .Λ) function (vptr (ptr m .0) (ptr m .1) ∷ val platform p ∷ slice-vals z) _ $
-          alloc1 ! (λ l₀. alloc1 ! (λ l₁. alloc1 ! (λ l₂. alloc1 ! (λ l₃. alloc1 ! (λ l₄. alloc1 ! (λ l₅. alloc1 !
-          (λ l₆. alloc0 ! $ params1 ! $ pass1 ! (init ! 10 refl (tt, tt)) $ pass1 ! (init ! 8 refl (typed platform
-          𝓤 H A W p p-fits)) $ pass1 ! (init ! 6 refl (tt, (tt, (record { fits = room .0 }, tt)))) $ pass0 ! $
+          alloc1 ! (λ l₀. alloc1 ! (λ l₁. alloc1 ! (λ l₂. alloc1 ! (λ l₃. alloc1 ! (λ l₄. alloc1 ! (λ l₅.
+          alloc1 ! (λ l₆. alloc0 ! $ params1 ! $
+          pass1 ! (init ! 10 refl (tt, tt)) $ pass1 ! (init ! 8 refl (typed platform 𝓤 H A W p p-fits)) $
+          pass1 ! (init ! 6 refl (tt, (tt, (record { fits = room .0 }, tt)))) $ pass0 ! $
           move ! (15 ∷ []) $ fsplit ! $ move ! (1 ∷ []) $ fsplit ! $ drop ! $ fsplit ! $ move ! (1 ∷ []) $ drop ! $
           move ! (16 ∷ []) $ split ! $ move ! (1 ∷ []) $ split ! $ move ! (1 ∷ []) $ drop ! $ move ! (0 ∷ 2 ∷ []) $
           -- [the row's token; the lent row; the machine's token; the lent machine; _6; …; _5; …; _4; …; _3; …; _2; …;

@@ -122,13 +122,14 @@ module _ (T : Data) (ν : Sym) (D : Type 0) (refused : D → TextRefusal) (machi
           (⋆ 𝓤 H A (At-end T texts textRefusal ν D refused machine one f #work 𝓤 H A W 𝓣 known-work κ q m Rest r))
           (Post (val textRefusal (refused r)))
       exits r fits e =
-          qed W (At-end T texts textRefusal ν D refused machine one f #work 𝓤 H A W 𝓣 known-work κ q m Rest r) ∵ move !
-          (3 ∷ []) $ split ! $ split ! $ split ! $ move ! (4 ∷ 5 ∷ 6 ∷ []) $ suffices ! _ (ends-at 𝓤 H A ended stayed
-          (clauses 𝓤) W y (val textRefusal (refused r)) (refused r) (machine r, (tt, (tt, tt))) (tt, (tt, (tt, tt)))) $
-          says ! (ap refused e, ap machine e) $ nothing ! $ move ! (5 ∷ 0 ∷ []) $ join ! $ move ! (4 ∷ 0 ∷ []) $
-          join ! $ move ! (3 ∷ 0 ∷ []) $ join ! $ frame ! $ feqI ! (List Val) (ptr-vals m) (ptr-vals m) refl $
-          fjoin3 ! $ nothing ! $ move ! (3 ∷ 0 ∷ []) $ fjoin ! $ move ! (2 ∷ 0 ∷ []) $ fjoin ! $ move ! (1 ∷ 0 ∷ []) $
-          fjoin ! $ owned ! (row textRefusal) (Is (row textRefusal)) (made textRefusal 𝓤 H A) (refused r) _
+          qed W (At-end T texts textRefusal ν D refused machine one f #work 𝓤 H A W 𝓣 known-work κ q m Rest r) ∵
+          move ! (3 ∷ []) $ split ! $ split ! $ split ! $ move ! (4 ∷ 5 ∷ 6 ∷ []) $
+          suffices ! _ (ends-at 𝓤 H A ended stayed (clauses 𝓤) W y (val textRefusal (refused r)) (refused r)
+          (machine r, (tt, (tt, tt))) (tt, (tt, (tt, tt)))) $ says ! (ap refused e, ap machine e) $
+          nothing ! $ move ! (5 ∷ 0 ∷ []) $ join ! $ move ! (4 ∷ 0 ∷ []) $ join ! $ move ! (3 ∷ 0 ∷ []) $ join ! $
+          frame ! $ feqI ! (List Val) (ptr-vals m) (ptr-vals m) refl $ fjoin3 ! $
+          nothing ! $ move ! (3 ∷ 0 ∷ []) $ fjoin ! $ move ! (2 ∷ 0 ∷ []) $ fjoin ! $ move ! (1 ∷ 0 ∷ []) $ fjoin ! $
+          owned ! (row textRefusal) (Is (row textRefusal)) (made textRefusal 𝓤 H A) (refused r) _
           (answer-fits T texts textRefusal ν D refused machine one f #work r fits) $ move ! (1 ∷ 0 ∷ []) $ done !
 
       walk : ent 𝓤 (onEntry 𝓤 H A (ended .signature) (κ, (κ′, (κ″, tt))) (q, (q′, (q″, tt))) (m, (p, (z, tt)))
@@ -139,13 +140,16 @@ module _ (T : Data) (ν : Sym) (D : Type 0) (refused : D → TextRefusal) (machi
           qed W ((‵ (flft κ q) ⊛ ‵ (flft κ′ q′) ⊛ ‵ (flft κ″ q″) ⊛ ‵ ftrue) ∷
           ‵ (owns (MutRef (named 0) κ (row T) ∷ ShrSlice (named 1) κ′ u8 ∷ ShrSlice (named 2) κ″ u8 ∷ [])
           (m, (p, (z, tt))) (ptr-vals m, (slice-vals p, (slice-vals z, tt)))) ∷ []) ∵
-          enter ! (𝓣 .C) (𝓣 .Λ) function (vptr (ptr m .0) (ptr m .1) ∷ sliceVal (ptr p) (length (now p)) ∷ slice-vals z)
-          _ $ alloc1 ! (λ l₀. alloc1 ! (λ l₁. alloc1 ! (λ l₂. alloc1 ! (λ l₃.
-          alloc1 ! (λ l₄. alloc1 ! (λ l₅. alloc1 ! (λ l₆. alloc0 ! $ params1 ! $ pass1 ! (init ! 10 refl (tt, tt)) $
-          pass1 ! (init ! 8 refl (tt, (tt, (record { fits = p-room .0 }, tt)))) $ pass1 ! (init ! 6 refl
-          (tt, (tt, (record { fits = room .0 }, tt)))) $ pass0 ! $ move ! (15 ∷ []) $ fsplit ! $ move ! (1 ∷ []) $
-          fsplit ! $ move ! (1 ∷ []) $ fsplit ! $ move ! (1 ∷ []) $ drop ! $ move ! (17 ∷ []) $ split ! $ move !
-          (1 ∷ []) $ split ! $ move ! (1 ∷ []) $ split ! $ move ! (1 ∷ []) $ drop ! $ move ! (1 ∷ 0 ∷ 4 ∷ 3 ∷ []) $
+          enter ! (𝓣 .C) (𝓣 .Λ) function
+          (vptr (ptr m .0) (ptr m .1) ∷ sliceVal (ptr p) (length (now p)) ∷ slice-vals z) _ $
+          alloc1 ! (λ l₀. alloc1 ! (λ l₁. alloc1 ! (λ l₂. alloc1 ! (λ l₃. alloc1 ! (λ l₄. alloc1 ! (λ l₅.
+          alloc1 ! (λ l₆. alloc0 ! $ params1 ! $
+          pass1 ! (init ! 10 refl (tt, tt)) $ pass1 ! (init ! 8 refl (tt, (tt, (record { fits = p-room .0 }, tt)))) $
+          pass1 ! (init ! 6 refl (tt, (tt, (record { fits = room .0 }, tt)))) $ pass0 ! $
+          move ! (15 ∷ []) $ fsplit ! $ move ! (1 ∷ []) $ fsplit ! $ move ! (1 ∷ []) $ fsplit ! $
+          move ! (1 ∷ []) $ drop ! $
+          move ! (17 ∷ []) $ split ! $ move ! (1 ∷ []) $ split ! $ move ! (1 ∷ []) $ split ! $ move ! (1 ∷ []) $
+          drop ! $ move ! (1 ∷ 0 ∷ 4 ∷ 3 ∷ []) $
           -- [the texts' tokens; the lent texts; the machine's token; the lent machine; _6; …; _5; …; _4; …; _3; …; _2;
           -- …; _1; …; room for _0; …]
           calls-texts 𝓤 H A at-mem run W κ′ κ″ q′ q″ p z ! (fmOf 𝓤 H (W .laws) 𝓣) known-texts

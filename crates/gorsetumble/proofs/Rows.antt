@@ -42,8 +42,8 @@ module _ {M : Type 1} (𝓤 : URA M) (H : Heap 𝓤) (A : Atoms 𝓤) (mem : Mem
     goes : ent 𝓤 (sep 𝓤 (A .lft κ q) (sem 𝓤 H A (lent κ z))) (TableOf .pre (to-table κ q p z))
     goes =
         qed W (‵ (flft κ q) ∷ ‵ (lent κ z) ∷ []) ∵ nothing ! $ move ! (2 ∷ 0 ∷ []) $ fjoin ! $
-        owned ! (row platform) (Is (row platform)) (made platform 𝓤 H A) p _ p-fits $ fjoin ! $ nothing ! $
-        move ! (2 ∷ 0 ∷ []) $ join ! $ join ! $ frame ! $ done !
+        owned ! (row platform) (Is (row platform)) (made platform 𝓤 H A) p _ p-fits $ fjoin ! $
+        nothing ! $ move ! (2 ∷ 0 ∷ []) $ join ! $ join ! $ frame ! $ done !
 
     said : (t : Table) → ent 𝓤 (ensured 𝓤 H A table-of.ended (table-of.clauses 𝓤 H A mem run) (κ, tt) (p, (z, tt)) tt t)
         (fact 𝓤 (t ≡ tableOf p (now z)))

@@ -103,14 +103,16 @@ module _ (T X N : Data) (ν : Sym) (D : Type 0) (answer : D → Value N) (machin
           (and-then ! (load ! (from ! (stop !)) (look ! 10 refl)) (no-more !))) (λ r e fits.
           land ! (from ! (stop !)) (init ! 7 refl (typed S 𝓤 H A W r fits)) $
           -- the new machine is stored, and the borrow is closed at it
-          assigns ! (of-opd ! (load ! (from ! (fld ! refl (stop !))) (look-in ! 7 (sub ! 1 refl (whole !))))) (from !
-          (hop ! (look ! 15 refl) (stop !))) (store-raw ! 0 refl (typed T 𝓤 H A W (machine r) (machine-fits r fits))) $
+          assigns ! (of-opd ! (load ! (from ! (fld ! refl (stop !))) (look-in ! 7 (sub ! 1 refl (whole !)))))
+          (from ! (hop ! (look ! 15 refl) (stop !)))
+          (store-raw ! 0 refl (typed T 𝓤 H A W (machine r) (machine-fits r fits))) $
           assigns ! (of-opd ! (load ! (from ! (fld ! refl (stop !))) (look-in ! 7 (sub ! 0 refl (whole !)))))
           (from ! (stop !)) (init ! 17 refl (typed N 𝓤 H A W (answer r) (answer-fits r fits))) $
           owned ! (row T) (Is (row T)) (made T 𝓤 H A) (machine r) _ (machine-fits r fits) $ move ! (1 ∷ 0 ∷ []) $
-          closes ! tt (row T) (machine r) (vals T (machine r)) (ptr m .0) (ptr m .1) $ returns ! (look ! 16 refl) $
-          forget ! 4 refl $ forget ! 6 refl $ forget ! 8 refl $ forget ! 10 refl $ forget ! 12 refl $ forget ! 14 refl $
-          forget ! 16 refl $ move ! (16 ∷ 17 ∷ []) $ free1 ! $ move ! (14 ∷ 15 ∷ []) $ free1 ! $ move ! (12 ∷ 13 ∷ []) $
-          free1 ! $ move ! (10 ∷ 11 ∷ []) $ free1 ! $ move ! (8 ∷ 9 ∷ []) $ free1 ! $ move ! (6 ∷ 7 ∷ []) $ free1 ! $
+          closes ! tt (row T) (machine r) (vals T (machine r)) (ptr m .0) (ptr m .1) $
+          returns ! (look ! 16 refl) $ forget ! 4 refl $ forget ! 6 refl $ forget ! 8 refl $ forget ! 10 refl $
+          forget ! 12 refl $ forget ! 14 refl $ forget ! 16 refl $
+          move ! (16 ∷ 17 ∷ []) $ free1 ! $ move ! (14 ∷ 15 ∷ []) $ free1 ! $ move ! (12 ∷ 13 ∷ []) $ free1 ! $
+          move ! (10 ∷ 11 ∷ []) $ free1 ! $ move ! (8 ∷ 9 ∷ []) $ free1 ! $ move ! (6 ∷ 7 ∷ []) $ free1 ! $
           move ! (4 ∷ 5 ∷ []) $ free1 ! $ free0 ! $
           by ! (exits r fits e))))

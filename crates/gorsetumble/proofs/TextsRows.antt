@@ -64,8 +64,8 @@ module _ {M : Type 1} (𝓤 : URA M) (H : Heap 𝓤) (A : Atoms 𝓤) (mem : Mem
         (TextsOf .pre (to-texts κ κ′ q q′ p z))
     goes =
         qed W ((((‵ (flft κ q) ⊛ ‵ (flft κ′ q′)) ⊛ ‵ (text κ p)) ⊛ ‵ (text κ′ z)) ∷ []) ∵ split ! $ split ! $ split ! $
-        nothing ! $ move ! (4 ∷ 0 ∷ []) $ fjoin ! $ move ! (3 ∷ 0 ∷ []) $ fjoin ! $ nothing ! $ move ! (3 ∷ 0 ∷ []) $
-        join ! $ move ! (2 ∷ 0 ∷ []) $ join ! $ join ! $ frame ! $ done !
+        nothing ! $ move ! (4 ∷ 0 ∷ []) $ fjoin ! $ move ! (3 ∷ 0 ∷ []) $ fjoin ! $
+        nothing ! $ move ! (3 ∷ 0 ∷ []) $ join ! $ move ! (2 ∷ 0 ∷ []) $ join ! $ join ! $ frame ! $ done !
 
     module _ {K : Type 0} {Γ : List (Item 𝓤)} {E : Env 𝓤 H} {C : Calls 𝓤 H} {Λ : Loops 𝓤 H} {post : Post 𝓤 H} {f : Name}
         {xs : List Operand} {d : Place} {rest : Body} where
@@ -78,9 +78,10 @@ module _ {M : Type 1} (𝓤 : URA M) (H : Heap 𝓤) (A : Atoms 𝓤) (mem : Mem
           (runs C Λ E (seq (call f xs d) rest) post)
       calls-texts t fm known os k =
           move t (3 ∷ []) $ use1 W (‵ (text κ′ z) ⊛ ‵ (text κ′ z))
-          (shr-slice-copy 𝓤 H A W (named 0) κ′ u8 .twice z (slice-vals z)) $ split t $ move t (4 ∷ []) $
-          use1 W (‵ (text κ p) ⊛ ‵ (text κ p)) (shr-slice-copy 𝓤 H A W (named 0) κ u8 .twice p (slice-vals p)) $
-          split t $ move t (4 ∷ 5 ∷ 0 ∷ 2 ∷ []) $ join t $ join t $ join t $
+          (shr-slice-copy 𝓤 H A W (named 0) κ′ u8 .twice z (slice-vals z)) $ split t $
+          move t (4 ∷ []) $ use1 W (‵ (text κ p) ⊛ ‵ (text κ p))
+          (shr-slice-copy 𝓤 H A W (named 0) κ u8 .twice p (slice-vals p)) $ split t $
+          move t (4 ∷ 5 ∷ 0 ∷ 2 ∷ []) $ join t $ join t $ join t $
           use1 W (raw (TextsOf .pre (to-texts κ κ′ q q′ p z))) goes $ calls-told t fm read-texts.ended
           (read-texts.clauses 𝓤 H A mem run) known (to-texts κ κ′ q q′ p z) (vals texts) (told texts) os (λ r fits.
           use1 W (raw (fact 𝓤 (r ≡ textsRead (now p) (now z)))) (said r) $ heard t (r ≡ textsRead (now p) (now z)) (λ e.

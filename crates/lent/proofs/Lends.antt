@@ -38,9 +38,10 @@ module _ {M : Type 1} {𝓤 : URA M} {H : Heap 𝓤} {A : Atoms 𝓤} {K : Type 
       use1 W (‵ (cellAt fullShare (row X .mir) (vals X h) l 0)) (W .laws .at-raw fullShare (ty X) l 0 (val X h)) $
       owned t (row X) (Is (row X)) (made X 𝓤 H A) h (vals X h) fits $ move t (1 ∷ 0 ∷ []) $ fjoin t $
       fpack t (List Val) (λ us. fsep (cellAt fullShare (row X .mir) us l 0) (row X .own h us)) (vals X h) $
-      lft-new t z (λ α. move t (1 ∷ []) $ use1 W (later (some (λ (δ : GName). ‵ (MutRef (named 0) (α ∷ []) (row X) .own
-      (ref-to l δ h) (vptr l 0 ∷ [])) ⊛ ‵ (lends X α l δ)))) (lends-ref 𝓤 H A W (row X) (named 0) (α ∷ []) h l 0) $
-      await t z $ pick t (λ δ. split t $ move t (2 ∷ []) $ k α δ))
+      lft-new t z (λ α. move t (1 ∷ []) $
+      use1 W (later (some (λ (δ : GName). ‵ (MutRef (named 0) (α ∷ []) (row X) .own (ref-to l δ h) (vptr l 0 ∷ []))
+      ⊛ ‵ (lends X α l δ)))) (lends-ref 𝓤 H A W (row X) (named 0) (α ∷ []) h l 0) $ await t z $
+      pick t (λ δ. split t $ move t (2 ∷ []) $ k α δ))
 
   pub local-back : K → Soaks G → (X : Data) (α : ℕ) (δ : GName) (h : Value X) (l : ℕ)
       → (Fits X h → Seq K W (‵ (fat fullShare (ty X) l 0 (val X h)) ∷ Γ) G)
@@ -48,7 +49,7 @@ module _ {M : Type 1} {𝓤 : URA M} {H : Heap 𝓤} {A : Atoms 𝓤} {K : Type 
   unfolding partOf
   local-back t z X α δ h l k =
       lft-end t z $ use3 W (later (‵ (partAt (row X) fullShare h l 0))) (ref-back 𝓤 H A W (row X) (α ∷ []) δ h l 0) $
-      await t z $ fpick t
-      (λ vs. fsplit t $ spelt t (row X) (Is (row X)) (shows 𝓤 H A (row X)) (vals X) (told X) fullShare h vs l 0 $
+      await t z $ fpick t (λ vs. fsplit t $
+      spelt t (row X) (Is (row X)) (shows 𝓤 H A (row X)) (vals X) (told X) fullShare h vs l 0 $
       use1 W (‵ (fat fullShare (ty X) l 0 (val X h))) (W .laws .raw-at fullShare (ty X) l 0 (val X h)) $
       move t (1 ∷ []) $ facts t (row X) (Is (row X)) (shows 𝓤 H A (row X)) h (vals X h) (λ fits. k fits))

@@ -118,9 +118,10 @@ module _ (T N : Data) (ν : Sym) (D : Type 0) (machine : D → Value T) (answer 
           qed W (‵ (fobs (name m) (row T .coded .code (machine r))) ∷
           ‵ (fbor κ (Body (mem (row T)) (ptr m .0) (ptr m .1) (name m))) ∷ ‵ (flft κ q) ∷ []) ∵
           suffices ! _ (ends-at 𝓤 H A ended stayed (clauses 𝓤) W y (val N (answer r)) (answer r)
-          (machine r, (tt, (tt, tt))) (tt, (tt, (tt, tt)))) $ says ! (ap answer e, ap machine e) $ nothing ! $
-          move ! (3 ∷ 0 ∷ []) $ join ! $ frame ! $ feqI ! (List Val) (ptr-vals m) (ptr-vals m) refl $
-          fjoin3 ! $ nothing ! $ owned ! u32 (Is u32) (uint-makes 𝓤 H A W w32) d _ (refl, d-fits) $ fjoin ! $
+          (machine r, (tt, (tt, tt))) (tt, (tt, (tt, tt)))) $ says ! (ap answer e, ap machine e) $
+          nothing ! $ move ! (3 ∷ 0 ∷ []) $ join ! $ frame ! $
+          feqI ! (List Val) (ptr-vals m) (ptr-vals m) refl $ fjoin3 ! $
+          nothing ! $ owned ! u32 (Is u32) (uint-makes 𝓤 H A W w32) d _ (refl, d-fits) $ fjoin ! $
           owned ! u32 (Is u32) (uint-makes 𝓤 H A W w32) c _ (refl, c-fits) $ fjoin ! $ move ! (1 ∷ 0 ∷ []) $ fjoin ! $
           owned ! (row N) (Is (row N)) (made N 𝓤 H A) (answer r) _ (answer-fits r fits) $ move ! (1 ∷ 0 ∷ []) $ done !
 
@@ -131,15 +132,16 @@ module _ (T N : Data) (ν : Sym) (D : Type 0) (machine : D → Value T) (answer 
           qed W ((‵ (flft κ q) ⊛ ‵ ftrue) ∷ ‵ (owns (MutRef (named 0) κ (row T) ∷ u32 ∷ u32 ∷ []) (m, (c, (d, tt)))
           (ptr-vals m, (vint w32 c ∷ [], (vint w32 d ∷ [], tt)))) ∷ []) ∵
           enter ! (𝓣 .C) (𝓣 .Λ) function (vptr (ptr m .0) (ptr m .1) ∷ vint w32 c ∷ vint w32 d ∷ []) _ $
-          alloc1 ! (λ l₀. alloc1 ! (λ l₁. alloc1 ! (λ l₂. alloc1 ! (λ l₃. alloc1 !
-          (λ l₄. alloc1 ! (λ l₅. alloc0 ! $ params1 ! $ pass1 ! (init ! 8 refl (tt, tt)) $ pass1 ! (init ! 6 refl
-          (tt, record { fits = c-fits })) $ pass1 ! (init ! 4 refl (tt, record { fits = d-fits })) $ pass0 ! $
+          alloc1 ! (λ l₀. alloc1 ! (λ l₁. alloc1 ! (λ l₂. alloc1 ! (λ l₃. alloc1 ! (λ l₄. alloc1 ! (λ l₅. alloc0 ! $
+          params1 ! $
+          pass1 ! (init ! 8 refl (tt, tt)) $ pass1 ! (init ! 6 refl (tt, record { fits = c-fits })) $
+          pass1 ! (init ! 4 refl (tt, record { fits = d-fits })) $ pass0 ! $
           -- the borrow of the machine is opened
-          move ! (13 ∷ []) $ fsplit ! $ move ! (1 ∷ []) $ drop ! $ fsplit3 ! $ drop ! $
-          move ! (14 ∷ []) $ split ! $ move ! (1 ∷ []) $ drop ! $ move ! (1 ∷ 2 ∷ 0 ∷ []) $
-          opens ! tt (row T) {h = now m} (ptr m .0) (ptr m .1) (λ vs. spelt ! (row T) (Is (row T))
-          (shows 𝓤 H A (row T)) (vals T) (told T) fullShare (now m) vs (ptr m .0) (ptr m .1) $ move ! (1 ∷ []) $
-          facts ! (row T) (Is (row T)) (shows 𝓤 H A (row T)) (now m) (vals T (now m)) (λ m-fits.
+          move ! (13 ∷ []) $ fsplit ! $ move ! (1 ∷ []) $ drop ! $ fsplit3 ! $ drop ! $ move ! (14 ∷ []) $ split ! $
+          move ! (1 ∷ []) $ drop ! $ move ! (1 ∷ 2 ∷ 0 ∷ []) $
+          opens ! tt (row T) {h = now m} (ptr m .0) (ptr m .1) (λ vs. spelt ! (row T) (Is (row T)) (shows 𝓤 H A (row T))
+          (vals T) (told T) fullShare (now m) vs (ptr m .0) (ptr m .1) $
+          move ! (1 ∷ []) $ facts ! (row T) (Is (row T)) (shows 𝓤 H A (row T)) (now m) (vals T (now m)) (λ m-fits.
           -- [the machine's cell; the open borrow; obs; auth; _5; …; _4; …; _3; …; _2; …; _1; …; room for _0; …]
           assigns ! (of-opd ! (load ! (from ! (hop ! (look ! 12 refl) (stop !))) (look-raw ! 0 refl))) (from ! (stop !))
           (init ! 4 refl (typed T 𝓤 H A W (now m) m-fits)) $
@@ -153,13 +155,15 @@ module _ (T N : Data) (ν : Sym) (D : Type 0) (machine : D → Value T) (answer 
           (and-then ! (load ! (from ! (stop !)) (look ! 9 refl)) (no-more !)))) (λ r e fits.
           land ! (from ! (stop !)) (init ! 6 refl (typed S 𝓤 H A W r fits)) $
           -- the new machine is stored, and the borrow is closed at it
-          assigns ! (of-opd ! (load ! (from ! (fld ! refl (stop !))) (look-in ! 6 (sub ! 0 refl (whole !))))) (from !
-          (hop ! (look ! 12 refl) (stop !))) (store-raw ! 0 refl (typed T 𝓤 H A W (machine r) (machine-fits r fits))) $
+          assigns ! (of-opd ! (load ! (from ! (fld ! refl (stop !))) (look-in ! 6 (sub ! 0 refl (whole !)))))
+          (from ! (hop ! (look ! 12 refl) (stop !)))
+          (store-raw ! 0 refl (typed T 𝓤 H A W (machine r) (machine-fits r fits))) $
           assigns ! (of-opd ! (load ! (from ! (fld ! refl (stop !))) (look-in ! 6 (sub ! 1 refl (whole !)))))
           (from ! (stop !)) (init ! 14 refl (typed N 𝓤 H A W (answer r) (answer-fits r fits))) $
           owned ! (row T) (Is (row T)) (made T 𝓤 H A) (machine r) _ (machine-fits r fits) $ move ! (1 ∷ 0 ∷ []) $
-          closes ! tt (row T) (machine r) (vals T (machine r)) (ptr m .0) (ptr m .1) $ returns ! (look ! 13 refl) $
-          forget ! 3 refl $ forget ! 5 refl $ forget ! 7 refl $ forget ! 9 refl $ forget ! 11 refl $ forget ! 13 refl $
+          closes ! tt (row T) (machine r) (vals T (machine r)) (ptr m .0) (ptr m .1) $
+          returns ! (look ! 13 refl) $ forget ! 3 refl $ forget ! 5 refl $ forget ! 7 refl $ forget ! 9 refl $
+          forget ! 11 refl $ forget ! 13 refl $
           move ! (13 ∷ 14 ∷ []) $ free1 ! $ move ! (11 ∷ 12 ∷ []) $ free1 ! $ move ! (9 ∷ 10 ∷ []) $ free1 ! $
           move ! (7 ∷ 8 ∷ []) $ free1 ! $ move ! (5 ∷ 6 ∷ []) $ free1 ! $ move ! (3 ∷ 4 ∷ []) $ free1 ! $ free0 ! $
           by ! (exits r fits e))))))))))

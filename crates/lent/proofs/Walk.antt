@@ -44,7 +44,8 @@ module _ {M : Type 1} {𝓤 : URA M} {H : Heap 𝓤} {A : Atoms 𝓤} {K : Type 
       let Alive : SProp 𝓤 = alive 𝓤 H A (T .signature) (y .0 .0) (y .0 .1) in
       calls-at t fm (tripleOf 𝓤 H A (T .signature) (closing 𝓤 H A T c)) met y os (λ v.
       use1 W (later (some (λ (r : R .Denot). (raw Alive ⊛ ‵ (R .own r (v ∷ []))) ⊛ raw (Said r)))) (id⊢ 𝓤 _) $
-      await t tt $ pick t (λ r. split t $ split t $ move t (1 ∷ []) $ facts t R (Is R) (shows 𝓤 H A R) r (v ∷ []) (λ is.
+      await t tt $ pick t (λ r. split t $ split t $ move t (1 ∷ []) $
+      facts t R (Is R) (shows 𝓤 H A R) r (v ∷ []) (λ is.
       subst (λ (us : List Val). Is R r us → Seq K W (raw Alive ∷ raw (Said r) ∷ Γ) (lands C Λ E d (only us) rest q))
       (sym (tl r (v ∷ []) is)) (λ is′. move t (1 ∷ []) $ k r is′) is)))
 

@@ -84,8 +84,9 @@ module _ {M : Type 1} (𝓤 : URA M) (H : Heap 𝓤) (A : Atoms 𝓤) (mem : Mem
     exits a k fits said =
         qed W (‵ (flft κ q) ∷ ‵ (fres (name m) (row machine .coded .code k)) ∷ []) ∵
         suffices ! _ (ends-at 𝓤 H A own.ended stayed (own.clauses 𝓤 H A mem run) W y (val answer a) a
-        (k, (tt, (tt, tt))) (tt, (tt, (tt, tt)))) $ says ! said $ nothing ! $ move ! (1 ∷ 0 ∷ []) $ join ! $
-        frame ! $ nothing ! $ owned ! u32 (Is u32) (uint-makes 𝓤 H A W w32) d _ (refl, d-fits) $ fjoin ! $
+        (k, (tt, (tt, tt))) (tt, (tt, (tt, tt)))) $ says ! said $
+        nothing ! $ move ! (1 ∷ 0 ∷ []) $ join ! $ frame ! $
+        nothing ! $ owned ! u32 (Is u32) (uint-makes 𝓤 H A W w32) d _ (refl, d-fits) $ fjoin ! $
         owned ! u32 (Is u32) (uint-makes 𝓤 H A W w32) c _ (refl, c-fits) $ fjoin ! $ move ! (1 ∷ 0 ∷ []) $ fjoin ! $
         owned ! (row answer) (Is (row answer)) (made answer 𝓤 H A) a _ fits $ move ! (1 ∷ 0 ∷ []) $ done !
 
@@ -109,13 +110,15 @@ module _ {M : Type 1} (𝓤 : URA M) (H : Heap 𝓤) (A : Atoms 𝓤) (mem : Mem
           (and-then ! (load ! (from ! (stop !)) (look ! 3 refl)) (no-more !)))) (λ a a-fits.
           use1 W (some (λ (ws : Machine × (Unit {0} × (Unit {0} × Unit {0}))).
           ‵ (lasts callee.ended (κ, tt) (m, (c, (d, tt))) ws) ⊛ raw (fact 𝓤 (Said a (ws .0))))) (id⊢ 𝓤 _) $
-          pick ! (λ ws. split ! $ move ! (1 ∷ []) $ heard ! (Said a (ws .0)) (λ said. fsplit ! $ move ! (1 ∷ []) $
-          drop ! $ move ! (1 ∷ []) $ use1 W (‵ (flft κ q)) (fst∗ 𝓤 (A .lft κ q) (emp 𝓤)) $
+          pick ! (λ ws. split ! $ move ! (1 ∷ []) $ heard ! (Said a (ws .0)) (λ said. fsplit ! $
+          move ! (1 ∷ []) $ drop ! $
+          move ! (1 ∷ []) $ use1 W (‵ (flft κ q)) (fst∗ 𝓤 (A .lft κ q) (emp 𝓤)) $
           -- [the token; the last value; _4; …; _3; …; _2; …; _1; …; room for _0; …]
           land ! (from ! (stop !)) (init ! 10 refl (typed answer 𝓤 H A W a a-fits)) $
-          returns ! (look ! 10 refl) $ forget ! 2 refl $ forget ! 4 refl $ forget ! 6 refl $ forget ! 8 refl $
-          forget ! 10 refl $ move ! (10 ∷ 11 ∷ []) $ free1 ! $ move ! (8 ∷ 9 ∷ []) $ free1 ! $ move ! (6 ∷ 7 ∷ []) $
-          free1 ! $ move ! (4 ∷ 5 ∷ []) $ free1 ! $ move ! (2 ∷ 3 ∷ []) $ free1 ! $ free0 ! $
+          returns ! (look ! 10 refl) $ forget ! 2 refl $ forget ! 4 refl $ forget ! 6 refl $
+          forget ! 8 refl $ forget ! 10 refl $
+          move ! (10 ∷ 11 ∷ []) $ free1 ! $ move ! (8 ∷ 9 ∷ []) $ free1 ! $ move ! (6 ∷ 7 ∷ []) $ free1 ! $
+          move ! (4 ∷ 5 ∷ []) $ free1 ! $ move ! (2 ∷ 3 ∷ []) $ free1 ! $ free0 ! $
           by ! (exits a (ws .0) a-fits said)))))))))
 
 module _ {M : Type 1} (𝓤 : URA M) (H : Heap 𝓤) (A : Atoms 𝓤) (W : Given 𝓤 H A) (mem : Memory → SProp 𝓤)

@@ -72,13 +72,12 @@ module _ {M : Type 1} (𝓤 : URA M) (H : Heap 𝓤) (A : Atoms 𝓤) (mem : Mem
     walk κ q p z p-fits room =
         qed W ((‵ (flft κ q) ⊛ ‵ ftrue) ∷ ‵ (owns (row platform ∷ ShrSlice (named 0) κ (row task) ∷ [])
         (p, (z, tt)) (vals platform p, (slice-vals z, tt))) ∷ []) ∵
-        enter ! (𝓣 .C) (𝓣 .Λ) code.function (val platform p ∷ slice-vals z) _ $ alloc1 ! (λ l₀. alloc1 !
-        (λ l₁. alloc1 ! (λ l₂. alloc1 ! (λ l₃. alloc1 ! (λ l₄. alloc1 ! (λ l₅. alloc1 ! (λ l₆. alloc1 ! (λ l₇. alloc1 !
-        (λ l₈. alloc1 ! (λ l₉. alloc1 ! (λ l₁₀. alloc1 ! (λ l₁₁. alloc1 ! (λ l₁₂. alloc1 ! (λ l₁₃. alloc1 ! (λ l₁₄.
-        alloc0 ! $ params1 ! $ pass1 ! (init ! 26 refl (typed platform 𝓤 H A W p p-fits)) $ pass1 ! (init ! 24 refl (
-          tt,
-          (tt, (record { fits = room .0 }, tt)),
-        )) $ pass0 ! $
+        enter ! (𝓣 .C) (𝓣 .Λ) code.function (val platform p ∷ slice-vals z) _ $
+        alloc1 ! (λ l₀. alloc1 ! (λ l₁. alloc1 ! (λ l₂. alloc1 ! (λ l₃. alloc1 ! (λ l₄. alloc1 ! (λ l₅. alloc1 ! (λ l₆.
+        alloc1 ! (λ l₇. alloc1 ! (λ l₈. alloc1 ! (λ l₉. alloc1 ! (λ l₁₀. alloc1 ! (λ l₁₁. alloc1 ! (λ l₁₂.
+        alloc1 ! (λ l₁₃. alloc1 ! (λ l₁₄. alloc0 ! $ params1 ! $
+        pass1 ! (init ! 26 refl (typed platform 𝓤 H A W p p-fits)) $
+        pass1 ! (init ! 24 refl (tt, (tt, (record { fits = room .0 }, tt)))) $ pass0 ! $
         assigns ! (of-opd ! (load ! (from ! (fld ! refl (stop !))) (look-in ! 24 (sub ! 1 refl (whole !)))))
         (from ! (stop !)) (init ! 22 refl (tt, record { fits = room .0 })) $
         -- how many rows are copied
@@ -95,8 +94,9 @@ module _ {M : Type 1} (𝓤 : URA M) (H : Heap 𝓤) (A : Atoms 𝓤) (mem : Mem
         (λ xs. xs ≡ noRows) (λ xs _. id⊢ 𝓤 _) (no-more !) (λ xs e fits.
         land ! (from ! (stop !)) (init ! 14 refl (array-typed 𝓤 H A W xs fits)) $
         assigns ! (of-opd ! (load ! (from ! (stop !)) (look ! 14 refl))) (from ! (stop !))
-        (init ! 18 refl (array-typed 𝓤 H A W xs fits)) $ assigns ! (of-opd ! (lit ! tt)) (from ! (stop !))
-        (init ! 16 refl (tt, record { fits = lit< tt })) $ forget ! 14 refl $
+        (init ! 18 refl (array-typed 𝓤 H A W xs fits)) $
+        assigns ! (of-opd ! (lit ! tt)) (from ! (stop !)) (init ! 16 refl (tt, record { fits = lit< tt })) $
+        forget ! 14 refl $
         -- [_14; …; room for _0; …; the tokens; what the parameters own], in the loop's order
         move ! (31 ∷ []) $ fsplit ! $ move ! (1 ∷ []) $ fsplit ! $ move ! (33 ∷ []) $ split ! $
         keep ! (0 ∷ 2 ∷ 5 ∷ 6 ∷ 7 ∷ 8 ∷ 9 ∷ 10 ∷ 11 ∷ 12 ∷ 13 ∷ 14 ∷ 15 ∷ 16 ∷ 17 ∷ 18 ∷ 19 ∷ 20 ∷ 21 ∷ 22 ∷ 23 ∷ 24 ∷

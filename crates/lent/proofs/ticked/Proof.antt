@@ -82,9 +82,10 @@ module _ {M : Type 1} (𝓤 : URA M) (H : Heap 𝓤) (A : Atoms 𝓤) (mem : Mem
         → ent 𝓤 (emp 𝓤) (Post (val S (both k a)))
     exits k a fits e =
         qed W [] ∵ suffices ! _ (ends-at 𝓤 H A own.ended stayed (own.clauses 𝓤 H A mem run) W y (val S (both k a))
-        (both k a) (tt, (tt, (tt, tt))) (tt, (tt, (tt, tt)))) $ says ! (λ i. both (e .1 i) (e .0 i)) $ owned ! (row S)
-        (Is (row S)) (made S 𝓤 H A) (both k a) _ fits $ nothing ! $ owned ! u32 (Is u32) (uint-makes 𝓤 H A W w32) d _
-        (refl, d-fits) $ fjoin ! $ owned ! u32 (Is u32) (uint-makes 𝓤 H A W w32) c _ (refl, c-fits) $ fjoin ! $
+        (both k a) (tt, (tt, (tt, tt))) (tt, (tt, (tt, tt)))) $ says ! (λ i. both (e .1 i) (e .0 i)) $
+        owned ! (row S) (Is (row S)) (made S 𝓤 H A) (both k a) _ fits $ nothing ! $
+        owned ! u32 (Is u32) (uint-makes 𝓤 H A W w32) d _ (refl, d-fits) $ fjoin ! $
+        owned ! u32 (Is u32) (uint-makes 𝓤 H A W w32) c _ (refl, c-fits) $ fjoin ! $
         owned ! (row machine) (Is (row machine)) (made machine 𝓤 H A) h _ h-fits $ fjoin ! $ nothing ! $ done !
 
     -- what `tick`'s triple binds outside, at the machine in the local at l
@@ -117,12 +118,15 @@ module _ {M : Type 1} (𝓤 : URA M) (H : Heap 𝓤) (A : Atoms 𝓤) (mem : Mem
       walk =
           qed W (‵ ftrue ∷ ‵ (owns (row machine ∷ u32 ∷ u32 ∷ []) (h, (c, (d, tt)))
           (vals machine h, (vint w32 c ∷ [], (vint w32 d ∷ [], tt)))) ∷ []) ∵ drop ! $ drop ! $
-          enter ! (𝓣 .C) (𝓣 .Λ) code.function (val machine h ∷ vint w32 c ∷ vint w32 d ∷ []) _ $ alloc1 ! (λ l₀.
-          alloc1 ! (λ l₁. alloc1 ! (λ l₂. alloc1 ! (λ l₃. alloc1 ! (λ l₄. alloc1 ! (λ l₅. alloc1 ! (λ l₆. alloc1 !
-          (λ l₇. alloc0 ! $ params1 ! $ pass1 ! (init ! 12 refl (typed machine 𝓤 H A W h h-fits)) $ pass1 ! (init !
-          10 refl (tt, record { fits = c-fits })) $ pass1 ! (init ! 8 refl (tt, record { fits = d-fits })) $ pass0 ! $
-          assigns ! (of-opd ! (load ! (from ! (stop !)) (look ! 12 refl))) (from ! (stop !)) (init ! 6 refl (typed
-          machine 𝓤 H A W h h-fits)) $ assigns ! (addr ! (from ! (stop !))) (from ! (stop !)) (init ! 2 refl (tt, tt)) $
+          enter ! (𝓣 .C) (𝓣 .Λ) code.function (val machine h ∷ vint w32 c ∷ vint w32 d ∷ []) _ $
+          alloc1 ! (λ l₀. alloc1 ! (λ l₁. alloc1 ! (λ l₂. alloc1 ! (λ l₃. alloc1 ! (λ l₄. alloc1 ! (λ l₅.
+          alloc1 ! (λ l₆. alloc1 ! (λ l₇. alloc0 ! $ params1 ! $
+          pass1 ! (init ! 12 refl (typed machine 𝓤 H A W h h-fits)) $
+          pass1 ! (init ! 10 refl (tt, record { fits = c-fits })) $
+          pass1 ! (init ! 8 refl (tt, record { fits = d-fits })) $ pass0 ! $
+          assigns ! (of-opd ! (load ! (from ! (stop !)) (look ! 12 refl))) (from ! (stop !))
+          (init ! 6 refl (typed machine 𝓤 H A W h h-fits)) $
+          assigns ! (addr ! (from ! (stop !))) (from ! (stop !)) (init ! 2 refl (tt, tt)) $
           -- the machine is lent
           move ! (6 ∷ []) $
           lends-local ! tt machine h l₄ h-fits (λ α δ. use2 W (raw (Ticks .pre (to-tick α l₄ δ))) (goes α l₄ δ) $
@@ -133,21 +137,24 @@ module _ {M : Type 1} (𝓤 : URA M) (H : Heap 𝓤) (A : Atoms 𝓤) (mem : Mem
           (and-then ! (load ! (from ! (stop !)) (look ! 9 refl)) (no-more !)))) (λ a a-fits.
           use1 W (some (λ (ws : Machine × (Unit {0} × (Unit {0} × Unit {0}))). ‵ (lasts lent-tick.ended (α ∷ [], tt)
           (ref-to l₄ δ h, (c, (d, tt))) ws) ⊛ raw (fact 𝓤 ((a ≡ tick h c d .answer) × (ws .0 ≡ tick h c d .machine)))))
-          (id⊢ 𝓤 _) $ pick ! (λ ws. split ! $ move ! (1 ∷ []) $ heard !
-          ((a ≡ tick h c d .answer) × (ws .0 ≡ tick h c d .machine)) (λ said. fsplit ! $ move ! (1 ∷ []) $ drop ! $
+          (id⊢ 𝓤 _) $
+          pick ! (λ ws. split ! $ move ! (1 ∷ []) $ heard ! ((a ≡ tick h c d .answer) × (ws .0 ≡ tick h c d .machine))
+          (λ said. fsplit ! $ move ! (1 ∷ []) $ drop ! $
           -- [the last value; the tokens; the lender's part; _7; …]: the machine is back
           move ! (1 ∷ []) $ use1 W (‵ (flft (α ∷ []) fullShare)) (fst∗ 𝓤 (A .lft (α ∷ []) fullShare) (emp 𝓤)) $
           move ! (0 ∷ 2 ∷ 1 ∷ []) $ local-back ! tt machine α δ (ws .0) l₄ (λ k-fits.
           -- [_4; _7; …; _6; …; _5; …; what frees _4; _3; …; room for _0; …]
           land ! (from ! (stop !)) (init ! 5 refl (typed answer 𝓤 H A W a a-fits)) $
           assigns ! (of-opd ! (load ! (from ! (stop !)) (look ! 0 refl))) (from ! (stop !))
-          (init ! 1 refl (typed machine 𝓤 H A W (ws .0) k-fits)) $ assigns ! (agg ! (and-then ! (load !
-          (from ! (stop !)) (look ! 1 refl)) (and-then ! (load ! (from ! (stop !)) (look ! 5 refl)) (no-more !))))
-          (from ! (stop !)) (init ! 14 refl (typed S 𝓤 H A W (both (ws .0) a) (both-fits (ws .0) a k-fits a-fits))) $
+          (init ! 1 refl (typed machine 𝓤 H A W (ws .0) k-fits)) $
+          assigns ! (agg ! (and-then ! (load ! (from ! (stop !)) (look ! 1 refl))
+          (and-then ! (load ! (from ! (stop !)) (look ! 5 refl)) (no-more !)))) (from ! (stop !))
+          (init ! 14 refl (typed S 𝓤 H A W (both (ws .0) a) (both-fits (ws .0) a k-fits a-fits))) $
           returns ! (look ! 14 refl) $ forget ! 0 refl $ forget ! 1 refl $ forget ! 3 refl $ forget ! 5 refl $
-          forget ! 8 refl $ forget ! 10 refl $ forget ! 12 refl $ forget ! 14 refl $ move ! (14 ∷ 15 ∷ []) $ free1 ! $
-          move ! (12 ∷ 13 ∷ []) $ free1 ! $ move ! (10 ∷ 11 ∷ []) $ free1 ! $ move ! (8 ∷ 9 ∷ []) $ free1 ! $ move !
-          (0 ∷ 7 ∷ []) $ free1 ! $ move ! (4 ∷ 5 ∷ []) $ free1 ! $ move ! (2 ∷ 3 ∷ []) $ free1 ! $ free1 ! $ free0 ! $
+          forget ! 8 refl $ forget ! 10 refl $ forget ! 12 refl $ forget ! 14 refl $
+          move ! (14 ∷ 15 ∷ []) $ free1 ! $ move ! (12 ∷ 13 ∷ []) $ free1 ! $ move ! (10 ∷ 11 ∷ []) $ free1 ! $
+          move ! (8 ∷ 9 ∷ []) $ free1 ! $ move ! (0 ∷ 7 ∷ []) $ free1 ! $ move ! (4 ∷ 5 ∷ []) $ free1 ! $
+          move ! (2 ∷ 3 ∷ []) $ free1 ! $ free1 ! $ free0 ! $
           by ! (exits (ws .0) a (both-fits (ws .0) a k-fits a-fits) said))))))))))))))
 
 module _ {M : Type 1} (𝓤 : URA M) (H : Heap 𝓤) (A : Atoms 𝓤) (W : Given 𝓤 H A) (mem : Memory → SProp 𝓤)

@@ -105,10 +105,11 @@ module _ {M : Type 1} (𝓤 : URA M) (H : Heap 𝓤) (A : Atoms 𝓤) (mem : Mem
     exits : (s : SetUp) → Fits S s → s ≡ setUp h (tableOf p (take n xs)) → ent 𝓤 (emp 𝓤) (Post (val S s))
     exits s fits e =
         qed W [] ∵ suffices ! _ (ends-at 𝓤 H A own.ended stayed (own.clauses 𝓤 H A mem run) W y (val S s) s
-        (tt, (tt, (tt, (tt, tt)))) (tt, (tt, (tt, (tt, tt))))) $ says ! e $ owned ! (row S) (Is (row S))
-        (made S 𝓤 H A) s _ fits $ nothing ! $ owned ! usize (Is usize) (uint-makes 𝓤 H A W w64) n _ (refl, n-fits) $
-        fjoin ! $ owned ! (tasks 33) (Is (tasks 33)) (array-makes 𝓤 H A W (row task) (made task 𝓤 H A) 33) xs _ xs-fit $
-        fjoin ! $ owned ! (row platform) (Is (row platform)) (made platform 𝓤 H A) p _ p-fits $ fjoin ! $
+        (tt, (tt, (tt, (tt, tt)))) (tt, (tt, (tt, (tt, tt))))) $ says ! e $
+        owned ! (row S) (Is (row S)) (made S 𝓤 H A) s _ fits $ nothing ! $
+        owned ! usize (Is usize) (uint-makes 𝓤 H A W w64) n _ (refl, n-fits) $ fjoin ! $
+        owned ! (tasks 33) (Is (tasks 33)) (array-makes 𝓤 H A W (row task) (made task 𝓤 H A) 33) xs _ xs-fit $ fjoin ! $
+        owned ! (row platform) (Is (row platform)) (made platform 𝓤 H A) p _ p-fits $ fjoin ! $
         owned ! (row machine) (Is (row machine)) (made machine 𝓤 H A) h _ h-fits $ fjoin ! $ nothing ! $ done !
 
     -- what `set_up`'s triple binds outside, at the machine in the local at l and the first k rows in the local at l′
@@ -132,9 +133,9 @@ module _ {M : Type 1} (𝓤 : URA M) (H : Heap 𝓤) (A : Atoms 𝓤) (mem : Mem
       goes =
           qed W (‵ (flft (α ∷ []) fullShare) ∷ ‵ (MutRef (named 0) (α ∷ []) (row machine) .own (ref-to l δ h)
           (vptr l 0 ∷ [])) ∷ ‵ (flft (β ∷ []) fullShare) ∷ ‵ (lent (β ∷ []) (ref-to l′ γ (take k xs))) ∷ []) ∵
-          nothing ! $ move ! (4 ∷ 0 ∷ []) $ fjoin ! $
-          owned ! (row platform) (Is (row platform)) (made platform 𝓤 H A) p _ p-fits $ fjoin ! $ move ! (2 ∷ 0 ∷ []) $
-          fjoin ! $ nothing ! $ move ! (3 ∷ 0 ∷ []) $ join ! $ move ! (2 ∷ 0 ∷ []) $ join ! $ join ! $ frame ! $ done !
+          nothing ! $ move ! (4 ∷ 0 ∷ []) $ fjoin ! $ owned ! (row platform) (Is (row platform))
+          (made platform 𝓤 H A) p _ p-fits $ fjoin ! $ move ! (2 ∷ 0 ∷ []) $ fjoin ! $
+          nothing ! $ move ! (3 ∷ 0 ∷ []) $ join ! $ move ! (2 ∷ 0 ∷ []) $ join ! $ join ! $ frame ! $ done !
 
     module _ (𝓣 : Tables 𝓤 H) (known-lendable : Triple 𝓤 (𝓣 .C #lendable) Lendable)
         (known-set-up : Triple 𝓤 (𝓣 .C #set-up) SetsUp) where
@@ -144,17 +145,21 @@ module _ {M : Type 1} (𝓤 : URA M) (H : Heap 𝓤) (A : Atoms 𝓤) (mem : Mem
           (val machine h ∷ val platform p ∷ only (all-vals xs) ∷ vint w64 n ∷ []) Post)
       walk =
           qed W (‵ ftrue ∷ ‵ (owns (row machine ∷ row platform ∷ tasks 33 ∷ usize ∷ []) (h, (p, (xs, (n, tt))))
-          (vals machine h, (vals platform p, (all-vals xs, (vint w64 n ∷ [], tt))))) ∷ []) ∵ drop ! $ drop ! $ enter !
-          (𝓣 .C) (𝓣 .Λ) code.function (val machine h ∷ val platform p ∷ only (all-vals xs) ∷ vint w64 n ∷ []) _ $
-          alloc1 ! (λ l₀. alloc1 ! (λ l₁. alloc1 !
-          (λ l₂. alloc1 ! (λ l₃. alloc1 ! (λ l₄. alloc1 ! (λ l₅. alloc1 ! (λ l₆. alloc1 ! (λ l₇. alloc1 ! (λ l₈.
-          alloc1 ! (λ l₉. alloc1 ! (λ l₁₀. alloc1 ! (λ l₁₁. alloc1 ! (λ l₁₂. alloc0 ! $ params1 ! $ pass1 ! (init ! 22
-          refl (typed machine 𝓤 H A W h h-fits)) $ pass1 ! (init ! 20 refl (typed platform 𝓤 H A W p p-fits)) $ pass1 !
-          (init ! 18 refl (array-lawful 𝓤 H A W (row task) (LL.lawful (task .type) (task .laws) 𝓤 H A W) 33 .typed xs _
-          xs-fit .0)) $ pass1 ! (init ! 16 refl (tt, record { fits = n-fits })) $ pass0 ! $ assigns ! (of-opd ! (load !
-          (from ! (stop !)) (look ! 18 refl))) (from ! (stop !)) (init ! 14 refl (array-lawful 𝓤 H A W (row task)
-          (LL.lawful (task .type) (task .laws) 𝓤 H A W) 33 .typed xs _ xs-fit .0)) $ assigns ! (of-opd ! (load !
-          (from ! (stop !)) (look ! 22 refl))) (from ! (stop !)) (init ! 12 refl (typed machine 𝓤 H A W h h-fits)) $
+          (vals machine h, (vals platform p, (all-vals xs, (vint w64 n ∷ [], tt))))) ∷ []) ∵ drop ! $ drop ! $
+          enter ! (𝓣 .C) (𝓣 .Λ) code.function
+          (val machine h ∷ val platform p ∷ only (all-vals xs) ∷ vint w64 n ∷ []) _ $
+          alloc1 ! (λ l₀. alloc1 ! (λ l₁. alloc1 ! (λ l₂. alloc1 ! (λ l₃. alloc1 ! (λ l₄. alloc1 ! (λ l₅.
+          alloc1 ! (λ l₆. alloc1 ! (λ l₇. alloc1 ! (λ l₈. alloc1 ! (λ l₉. alloc1 ! (λ l₁₀. alloc1 ! (λ l₁₁.
+          alloc1 ! (λ l₁₂. alloc0 ! $ params1 ! $
+          pass1 ! (init ! 22 refl (typed machine 𝓤 H A W h h-fits)) $
+          pass1 ! (init ! 20 refl (typed platform 𝓤 H A W p p-fits)) $
+          pass1 ! (init ! 18 refl
+          (array-lawful 𝓤 H A W (row task) (LL.lawful (task .type) (task .laws) 𝓤 H A W) 33 .typed xs _ xs-fit .0)) $
+          pass1 ! (init ! 16 refl (tt, record { fits = n-fits })) $ pass0 ! $
+          assigns ! (of-opd ! (load ! (from ! (stop !)) (look ! 18 refl))) (from ! (stop !)) (init ! 14 refl
+          (array-lawful 𝓤 H A W (row task) (LL.lawful (task .type) (task .laws) 𝓤 H A W) 33 .typed xs _ xs-fit .0)) $
+          assigns ! (of-opd ! (load ! (from ! (stop !)) (look ! 22 refl))) (from ! (stop !))
+          (init ! 12 refl (typed machine 𝓤 H A W h h-fits)) $
           calls-plain ! (fmOf 𝓤 H (W .laws) 𝓣) (lendable.signature .params) (lendable.ended .kept)
           (lendable.signature .result) (lendable.clauses 𝓤 H A mem run) known-lendable
           (n, tt) (vint w64 n ∷ [], tt) tt (uint-makes 𝓤 H A W w64, tt) ((refl, n-fits), tt) (id⊢ 𝓤 (emp 𝓤))
@@ -165,13 +170,14 @@ module _ {M : Type 1} (𝓤 : URA M) (H : Heap 𝓤) (A : Atoms 𝓤) (mem : Mem
           assigns ! (addr ! (from ! (stop !))) (from ! (stop !)) (init ! 4 refl (tt, tt)) $
           assigns ! (agg ! (and-then ! (load ! (from ! (stop !)) (look ! 4 refl))
           (and-then ! (load ! (from ! (stop !)) (look ! 10 refl)) (no-more !)))) (from ! (stop !))
-          (init ! 2 refl (tt, (tt, (record { fits = k-fits .1 }, tt)))) $ rewrite ! 2 (λ (j : ℕ).
-          ‵ (fat fullShare (sliceTy (tyRef erased imm (pointee (row task .written)))) l₁₁ 0 (sliceVal (l₅, 0) j)))
-          (sym (first-length xs 33 n k (xs-fit .1 .0 .1) e)) refl $
+          (init ! 2 refl (tt, (tt, (record { fits = k-fits .1 }, tt)))) $
+          rewrite ! 2 (λ (j : ℕ). ‵ (fat fullShare (sliceTy (tyRef erased imm (pointee (row task .written)))) l₁₁ 0
+          (sliceVal (l₅, 0) j))) (sym (first-length xs 33 n k (xs-fit .1 .0 .1) e)) refl $
           -- the machine and the rows are lent
-          move ! (12 ∷ []) $ lends-local ! tt machine h l₆ h-fits (λ α δ. move ! (16 ∷ []) $ lends-rows ! tt 33 k xs l₅
-          xs-fit (lent-room k n _ e (first-length xs 33 n k (xs-fit .1 .0 .1) e)) (λ β γ. move ! (4 ∷ 5 ∷ 0 ∷ 1 ∷ []) $
-          group ! 4 $ use1 W (raw (SetsUp .pre (to-set-up k α β l₆ l₅ δ γ))) (goes k α β l₆ l₅ δ γ) $
+          move ! (12 ∷ []) $ lends-local ! tt machine h l₆ h-fits (λ α δ. move ! (16 ∷ []) $
+          lends-rows ! tt 33 k xs l₅ xs-fit (lent-room k n _ e (first-length xs 33 n k (xs-fit .1 .0 .1) e)) (λ β γ.
+          move ! (4 ∷ 5 ∷ 0 ∷ 1 ∷ []) $ group ! 4 $
+          use1 W (raw (SetsUp .pre (to-set-up k α β l₆ l₅ δ γ))) (goes k α β l₆ l₅ δ γ) $
           -- [what `set_up` asks; the rows' lender's part; the other rows; the machine's lender's part; _12; …; _7; …;
           -- what frees _6; what frees _5; _4; …; room for _0; …]
           calls-told ! (fmOf 𝓤 H (W .laws) 𝓣) set-up.ended (set-up.clauses 𝓤 H A mem run) known-set-up
@@ -180,12 +186,12 @@ module _ {M : Type 1} (𝓤 : URA M) (H : Heap 𝓤) (A : Atoms 𝓤) (mem : Mem
           (look ! 22 refl)) (and-then ! (load ! (from ! (stop !)) (look ! 6 refl)) (no-more !)))) (λ r r-fits.
           use1 W (some (λ (ws : Machine × (Unit {0} × (Unit {0} × Unit {0}))).
           ‵ (lasts set-up.ended (α ∷ [], (β ∷ [], tt)) (ref-to l₆ δ h, (p, (ref-to l₅ γ (take k xs), tt))) ws)
-          ⊛ raw (fact 𝓤
-          ((r ≡ setUp h (tableOf p (take k xs)) .refused) × (ws .0 ≡ setUp h (tableOf p (take k xs)) .machine)))))
-          (id⊢ 𝓤 _) $ pick ! (λ ws. split ! $ move ! (1 ∷ []) $ heard ! ((r ≡ setUp h (tableOf p (take k xs)) .refused)
-          × (ws .0 ≡ setUp h (tableOf p (take k xs)) .machine)) (λ said. fsplit ! $ move ! (1 ∷ []) $ drop ! $
-          move ! (1 ∷ []) $ use1 W (‵ (flft (α ∷ []) fullShare) ⊛ ‵ (flft (β ∷ []) fullShare) ⊛ ‵ ftrue) (id⊢ 𝓤 _) $
-          split ! $ move ! (1 ∷ []) $ split ! $ move ! (1 ∷ []) $ drop ! $
+          ⊛ raw (fact 𝓤 ((r ≡ setUp h (tableOf p (take k xs)) .refused)
+          × (ws .0 ≡ setUp h (tableOf p (take k xs)) .machine))))) (id⊢ 𝓤 _) $ pick ! (λ ws. split ! $ move ! (1 ∷ []) $
+          heard ! ((r ≡ setUp h (tableOf p (take k xs)) .refused) × (ws .0 ≡ setUp h (tableOf p (take k xs)) .machine))
+          (λ said. fsplit ! $ move ! (1 ∷ []) $ drop ! $ move ! (1 ∷ []) $
+          use1 W (‵ (flft (α ∷ []) fullShare) ⊛ ‵ (flft (β ∷ []) fullShare) ⊛ ‵ ftrue) (id⊢ 𝓤 _) $ split ! $
+          move ! (1 ∷ []) $ split ! $ move ! (1 ∷ []) $ drop ! $
           -- [the rows' token; the machine's token; its last value; the rows' lender's part; the other rows; the
           -- machine's lender's part; _12; …]: both are back
           move ! (0 ∷ 3 ∷ 4 ∷ []) $ rows-back ! tt 33 k xs l₅ β (xs-fit .1 .0 .1) $ move ! (1 ∷ 3 ∷ 2 ∷ []) $
@@ -193,15 +199,17 @@ module _ {M : Type 1} (𝓤 : URA M) (H : Heap 𝓤) (A : Atoms 𝓤) (mem : Mem
           -- [_6; _5; _12; …; _7; …; what frees _6; what frees _5; _4; …; room for _0; …]
           land ! (from ! (stop !)) (init ! 10 refl (typed refusal 𝓤 H A W r r-fits)) $
           assigns ! (of-opd ! (load ! (from ! (stop !)) (look ! 0 refl))) (from ! (stop !))
-          (init ! 2 refl (typed machine 𝓤 H A W (ws .0) k-fits′)) $ assigns ! (agg ! (and-then ! (load !
-          (from ! (stop !)) (look ! 10 refl)) (and-then ! (load ! (from ! (stop !)) (look ! 2 refl)) (no-more !))))
-          (from ! (stop !)) (init ! 24 refl (typed S 𝓤 H A W (both r (ws .0)) (fits r (ws .0) r-fits k-fits′))) $
+          (init ! 2 refl (typed machine 𝓤 H A W (ws .0) k-fits′)) $
+          assigns ! (agg ! (and-then ! (load ! (from ! (stop !)) (look ! 10 refl))
+          (and-then ! (load ! (from ! (stop !)) (look ! 2 refl)) (no-more !)))) (from ! (stop !))
+          (init ! 24 refl (typed S 𝓤 H A W (both r (ws .0)) (fits r (ws .0) r-fits k-fits′))) $
           returns ! (look ! 24 refl) $ forget ! 0 refl $ forget ! 1 refl $ forget ! 2 refl $ forget ! 4 refl $
           forget ! 6 refl $ forget ! 8 refl $ forget ! 10 refl $ forget ! 12 refl $ forget ! 16 refl $
-          forget ! 18 refl $ forget ! 20 refl $ forget ! 22 refl $ forget ! 24 refl $ move ! (24 ∷ 25 ∷ []) $
-          free1 ! $ move ! (22 ∷ 23 ∷ []) $ free1 ! $ move ! (20 ∷ 21 ∷ []) $ free1 ! $ move ! (18 ∷ 19 ∷ []) $
-          free1 ! $ move ! (16 ∷ 17 ∷ []) $ free1 ! $ move ! (1 ∷ 15 ∷ []) $ free1 ! $ move ! (0 ∷ 13 ∷ []) $
-          free1 ! $ move ! (10 ∷ 11 ∷ []) $ free1 ! $ move ! (8 ∷ 9 ∷ []) $ free1 ! $ move ! (6 ∷ 7 ∷ []) $ free1 ! $
+          forget ! 18 refl $ forget ! 20 refl $ forget ! 22 refl $ forget ! 24 refl $
+          move ! (24 ∷ 25 ∷ []) $ free1 ! $ move ! (22 ∷ 23 ∷ []) $ free1 ! $ move ! (20 ∷ 21 ∷ []) $ free1 ! $
+          move ! (18 ∷ 19 ∷ []) $ free1 ! $ move ! (16 ∷ 17 ∷ []) $ free1 ! $ move ! (1 ∷ 15 ∷ []) $ free1 ! $
+          move ! (0 ∷ 13 ∷ []) $ free1 ! $
+          move ! (10 ∷ 11 ∷ []) $ free1 ! $ move ! (8 ∷ 9 ∷ []) $ free1 ! $ move ! (6 ∷ 7 ∷ []) $ free1 ! $
           move ! (4 ∷ 5 ∷ []) $ free1 ! $ move ! (2 ∷ 3 ∷ []) $ free1 ! $ free1 ! $ free0 ! $
           by ! (exits (both r (ws .0)) (fits r (ws .0) r-fits k-fits′) (whole (take k xs) said ∙ ap (λ (ys : List Task).
           setUp h (tableOf p ys)) (first-same xs 33 n k (xs-fit .1 .0 .1) e)))))))))))))))))))))))

@@ -176,7 +176,8 @@ module _ {M : Type 1} (𝓤 : URA M) (H : Heap 𝓤) (A : Atoms 𝓤) (W : Given
   unfolding afterTurn
   turn i xs le e fits =
       assigns ! (bin ! (load ! (from ! (stop !)) (look ! 18 refl)) (load ! (from ! (stop !)) (look ! 22 refl)) tt)
-      (from ! (stop !)) (init ! 14 refl (tt, tt)) $ first ! $ branches ! (load ! (from ! (stop !)) (look ! 14 refl))
+      (from ! (stop !)) (init ! 14 refl (tt, tt)) $
+      first ! $ branches ! (load ! (from ! (stop !)) (look ! 14 refl))
       (λ test. skips ! $ exec ! (𝓣 .C) (𝓣 .Λ) En more (anyQ (Turned (i, xs, le, e, fits))) $
       assigns !
       (bin ! (load ! (from ! (stop !)) (look ! 18 refl)) (lit ! tt) (record { fits = turning i test .fits-offset }))
@@ -192,8 +193,9 @@ module _ {M : Type 1} (𝓤 : URA M) (H : Heap 𝓤) (A : Atoms 𝓤) (W : Given
       (turning i test .in-slice) (λ g.
       -- [rows[i]; what it owns; the others; what shuts; the fractured borrow; res; rows's fact; _14; …; _10; …]
       assigns ! (of-opd ! (load ! (from ! (hop ! (look ! 15 refl) (stop !))) (look-raw ! 0 refl))) (from ! (stop !))
-      (init ! 13 refl (typed task 𝓤 H A W (elem i) g)) $ elem-back ! (row task) q′ ys i noTask (vals task (elem i)) b o
-      (turning i test .in-slice) $ shuts-slice ! tt (row task) q′ ys b o $
+      (init ! 13 refl (typed task 𝓤 H A W (elem i) g)) $
+      elem-back ! (row task) q′ ys i noTask (vals task (elem i)) b o (turning i test .in-slice) $
+      shuts-slice ! tt (row task) q′ ys b o $
       -- [the token; the fractured borrow; res; rows's fact; _14; …]: the slice is put together again
       move ! (2 ∷ 1 ∷ []) $ fjoin ! $ move ! (2 ∷ 0 ∷ []) $ fjoin ! $ move ! (1 ∷ 0 ∷ []) $
       assigns !
@@ -209,11 +211,13 @@ module _ {M : Type 1} (𝓤 : URA M) (H : Heap 𝓤) (A : Atoms 𝓤) (W : Given
       assigns ! (of-opd ! (load ! (from ! (stop !)) (look ! 10 refl))) (from ! (hop ! (look ! 4 refl) (stop !)))
       (store-raw ! 0 refl (typed task 𝓤 H A W (elem i) g)) $
       row-in ! mostTasks xs l₅ i (elem i) g (fits .1 .0 .1) (in-array i xs fits (turning i test)) (λ fits′.
-      keep ! (1 ∷ 2 ∷ 3 ∷ 4 ∷ 5 ∷ 6 ∷ 7 ∷ 8 ∷ 9 ∷ 10 ∷ 11 ∷ 12 ∷ 13 ∷ 14 ∷ 15 ∷ 16 ∷ 17 ∷ 18 ∷
-      19 ∷ 20 ∷ 0 ∷ 21 ∷ 22 ∷ 23 ∷ 24 ∷ 25 ∷ 26 ∷ 27 ∷ 28 ∷ 29 ∷ 30 ∷ 31 ∷ []) $ assigns-last !
+      keep ! (1 ∷ 2 ∷ 3 ∷ 4 ∷ 5 ∷ 6 ∷ 7 ∷ 8 ∷ 9 ∷ 10 ∷ 11 ∷ 12 ∷ 13 ∷ 14 ∷ 15 ∷ 16 ∷ 17 ∷ 18 ∷ 19 ∷ 20 ∷ 0 ∷ 21 ∷ 22 ∷
+      23 ∷ 24 ∷ 25 ∷ 26 ∷ 27 ∷ 28 ∷ 29 ∷ 30 ∷ 31 ∷ []) $
+      assigns-last !
       (bin ! (load ! (from ! (stop !)) (look ! 18 refl)) (lit ! tt) (record { fits = turning i test .fits-next }))
-      (from ! (stop !)) (store ! 18 refl (tt, record { fits = turning i test .fits-next })) $ forget ! 2 refl $
-      forget ! 4 refl $ forget ! 6 refl $ forget ! 8 refl $ forget ! 10 refl $ forget ! 12 refl $ forget ! 14 refl $
+      (from ! (stop !)) (store ! 18 refl (tt, record { fits = turning i test .fits-next })) $
+      forget ! 2 refl $ forget ! 4 refl $ forget ! 6 refl $ forget ! 8 refl $ forget ! 10 refl $
+      forget ! 12 refl $ forget ! 14 refl $
       again ! Nearer At (i, xs, le, e, fits) (
         i + 1,
         set xs i (elem i),

@@ -6,6 +6,7 @@ use crate::run::{Program, Programs, Trouble};
 use crate::typed::Reports;
 use crate::unit::{self, Text, Unit};
 use crate::words::margins::{Explained, Times};
+use crate::words::refusal::Source;
 use crate::words::{self, margins, refusal, ticks};
 use std::path::Path;
 
@@ -126,13 +127,22 @@ impl Asked<'_> {
         refused: Refused,
         reports: &Named,
     ) -> Result<String, Trouble> {
-        let unit = self.same_unit(program, bytes, reports)?;
-        if refused.number != 15 {
-            return refusal::of_table(&unit, refused).ok_or(Trouble::Changed);
+        match refused.number {
+            1..=8 => {
+                let unit = self.same_unit(program, bytes, reports)?;
+                refusal::of_table(&unit, refused).ok_or(Trouble::Changed)
+            }
+            15 => self.text_words(program, refused, reports),
+            number => Ok(refusal::of_number(number)),
         }
+    }
+
+    fn text_words(&self, program: Program, refused: Refused, reports: &Named) -> Result<String, Trouble> {
+        let unit = Unit::of_folder(self.folder, reports.text.clone());
         let form = unit.refused_text(self.programs, program, refused)?.ok_or(Trouble::Changed)?;
         let name = if form.file == REPORTS.file { &reports.name } else { form.file };
-        refusal::of_text(name, self.folder, form, unit.text(form), refused.row).ok_or(Trouble::Changed)
+        let source = Source { name, folder: self.folder };
+        refusal::of_text(&source, form, unit.text(form), refused.row).ok_or(Trouble::Changed)
     }
 
     fn not_admitted_words(&self, bytes: &[u8], rows: &[Margin]) -> Result<String, Trouble> {

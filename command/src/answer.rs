@@ -354,7 +354,7 @@ mod tests {
             tick 1: finished task 1; late tasks 2 and 4; started task 3\n\
             3 rows: 2 ticks taken, 1 row refused, 1 tick with late tasks\n\
             reports.csv, line 3 (row 2): refused, number 12: a task is released before its period is over\n\
-            \x20 the row: released task 1; finished tasks 1 and 4; nothing happened, the tick is not counted\n\
+            \x20 the row: released task 1; finished tasks 1 and 4. Nothing happened, the tick is not counted\n\
             \x20 cure: its T is too large, or the sender sends too often\n\
             reports.csv, line 4 (row 3), tick 1: late: tasks 2 and 4\n";
         assert!(words.starts_with(wanted), "{words}");

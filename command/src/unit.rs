@@ -123,14 +123,14 @@ impl Unit {
 
 fn refusal(program: Program, bytes: &[u8]) -> Option<Refused> {
     let refused = match program {
-        Program::Admit => listing::margins(bytes).map(refused),
-        Program::Ticks => listing::ticks(bytes).map(refused),
-        Program::Explain => listing::shares(bytes).map(refused),
+        Program::Admit => listing::margins(bytes).map(refusal_of),
+        Program::Ticks => listing::ticks(bytes).map(refusal_of),
+        Program::Explain => listing::shares(bytes).map(refusal_of),
     };
     refused.flatten()
 }
 
-fn refused<Row>(listing: Listing<Row>) -> Option<Refused> {
+fn refusal_of<Row>(listing: Listing<Row>) -> Option<Refused> {
     match listing {
         Listing::Refused(refused) => Some(refused),
         Listing::Rows(_) => None,

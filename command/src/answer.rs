@@ -253,7 +253,9 @@ mod tests {
 
     const TWO_FAIL: &str = r"case $1 in
         admit) printf 'task,margin,pass\r\n1,-6,0\r\n2,-6,0\r\n' ;;
-        explain) printf 'task,other,interference,weight,share\r\n1,1,4,1,4\r\n1,2,6,1,6\r\n2,1,4,1,4\r\n2,2,6,1,6\r\n' ;;
+        explain)
+            printf 'task,other,interference,weight,share\r\n1,1,4,1,4\r\n1,2,6,1,6\r\n'
+            printf '2,1,4,1,4\r\n2,2,6,1,6\r\n' ;;
         esac";
 
     #[test]

@@ -1,5 +1,5 @@
-//! `gorsetumble`: what a fitter types. It decides nothing: the proved programs' bytes go to standard output as they are,
-//! the exit status is what they say, and words for a person go to standard error.
+//! `gorsetumble`: what a fitter types. It decides nothing: the proved programs' bytes go to standard output as they
+//! are, the exit status is what they say, and words for a person go to standard error.
 #![forbid(unsafe_code)]
 
 mod answer;

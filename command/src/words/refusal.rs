@@ -238,9 +238,8 @@ fn of_count(rows: usize) -> Option<String> {
         _ => counted(rows, "row"),
     };
     let row_0 = "the listing says row 0: how many rows there are is at fault, and no single row";
-    Some(format!(
-        "  where: tasks.csv, the file as a whole\n  there stands: {stands}\n  may stand there: 1 to 32 rows\n  {row_0}\n"
-    ))
+    let place = "  where: tasks.csv, the file as a whole\n";
+    Some(format!("{place}  there stands: {stands}\n  may stand there: 1 to 32 rows\n  {row_0}\n"))
 }
 
 /// The column at fault, what stands there and what may: for refusals 4 to 8 of a row.

@@ -152,3 +152,40 @@ pub fn ordinary(folder: &Path, files: &[&str]) -> Result<(), Trouble> {
     }
     Ok(())
 }
+
+#[cfg(test)]
+mod tests {
+    use super::*;
+    use std::process::Command;
+
+    #[test]
+    fn a_pipe_is_seen_before_a_program_waits_for_it() {
+        let scratch = Scratch::new().unwrap();
+        let files = ["platform.csv", "tasks.csv"];
+        assert!(ordinary(&scratch.path, &files).is_ok(), "what is not there is the program's to say");
+        scratch.put("platform.csv", b"").unwrap();
+        fs::create_dir(scratch.path.join("tasks.csv")).unwrap();
+        assert!(ordinary(&scratch.path, &files).is_ok(), "and so is a folder");
+        fs::remove_dir(scratch.path.join("tasks.csv")).unwrap();
+        assert!(Command::new("mkfifo").arg(scratch.path.join("tasks.csv")).status().unwrap().success());
+        assert!(matches!(ordinary(&scratch.path, &files), Err(Trouble::NotAFile(_))));
+        let file = scratch.path.join("platform.csv");
+        assert!(matches!(ordinary(&file, &files), Err(Trouble::NotAFolder(_))));
+        assert!(matches!(ordinary(&scratch.path.join("nowhere"), &files), Err(Trouble::NoFolder(..))));
+    }
+
+    #[test]
+    fn texts_as_far_as_a_program_looks() {
+        let scratch = Scratch::new().unwrap();
+        let text = |name: &str| Text::of_file(&scratch.path.join(name));
+        scratch.put("longest", &vec![b'x'; LONGEST]).unwrap();
+        scratch.put("longer", &vec![b'x'; LONGEST + 2]).unwrap();
+        assert_eq!(text("longest").given().len(), LONGEST);
+        assert_eq!(text("longer").given().len(), LONGEST + 1);
+        assert_eq!(text("nowhere"), Text::Missing);
+        assert!(matches!(Text::of_file(&scratch.path), Text::Unreadable(_)));
+        let path = scratch.path.clone();
+        drop(scratch);
+        assert!(!path.exists(), "a scratch folder goes with all that is in it");
+    }
+}

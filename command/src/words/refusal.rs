@@ -58,9 +58,9 @@ pub fn headline(number: u32) -> String {
     format!("refused, number {number}: {}\n", meaning(number))
 }
 
-/// Of what is neither a text nor a table: its meaning and cure.
+/// Of what is neither a text nor a table.
 pub fn of_number(number: u32) -> String {
-    headline(number) + &format!("  cure: {}\n", cure(number))
+    format!("  cure: {}\n", cure(number))
 }
 
 /// A text by the name that it was given under, and the unit's folder.
@@ -77,8 +77,7 @@ pub fn of_text(source: &Source, form: &'static Form, text: &Text, offset: usize)
         false if offset == 0 => whole,
         false => return None,
     };
-    let mut words = headline(15);
-    words += &format!("  where: {}, {}\n", source.name, whereabouts(&fault));
+    let mut words = format!("  where: {}, {}\n", source.name, whereabouts(&fault));
     if fault.has_place() {
         words += &pointed(&fault);
     }
@@ -226,7 +225,7 @@ pub fn of_table(unit: &Unit, refused: Refused) -> Option<String> {
             of_row(&TASKS, unit, *start, column, row, &stands, &may)
         }
     };
-    Some(headline(refused.number) + &said + &format!("  cure: {}\n", cure(refused.number)))
+    Some(said + &of_number(refused.number))
 }
 
 const ROW_0: &str = "  the listing says row 0: the fault is the board's, and in no row of tasks.csv\n";
@@ -283,8 +282,7 @@ mod tests {
 
     #[test]
     fn a_place_in_a_text() {
-        let wanted = "refused, number 15: a text is not of the wanted form\n\
-            \x20 where: tasks.csv, line 2 (row 1), column 10; place 18, counted from 0\n\
+        let wanted = "  where: tasks.csv, line 2 (row 1), column 10; place 18, counted from 0\n\
             \x20     40,50,2,1<LF>\n\
             \x20              ^\n\
             \x20 there stands: LF\n\
@@ -362,7 +360,7 @@ mod tests {
             let (platform, tasks) = (text("cores,partitions", platform), text("D,T,C,A", tasks));
             of_table(&Unit { platform, tasks, reports: Text::Missing }, Refused { number, row })
         };
-        let wanted = "refused, number 6: C is above D\n  where: tasks.csv, line 3 (row 2), column C\n\
+        let wanted = "  where: tasks.csv, line 3 (row 2), column C\n\
             \x20     80,100,90,2\n             ^\n  there stands: C is 90 and D is 80\n\
             \x20 may stand there: C from 1 to D\n\
             \x20 cure: the job could never end in time: shorten the run or give it longer\n";

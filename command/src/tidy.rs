@@ -2,6 +2,7 @@
 //! put right. It changes how the numbers are written down and never a number; whether a copy is good is for the proved
 //! programs to say.
 
+use crate::words;
 use std::fs::{self, File};
 use std::io::{self, Read, Write};
 use std::path::{Path, PathBuf};
@@ -25,6 +26,7 @@ pub enum Kind {
     Tabs,
     LineFeed,
     CarriageReturn,
+    TwoCarriageReturns,
     LastLineEnd,
     BlankLastLine,
 }
@@ -46,6 +48,7 @@ impl Change {
             Kind::Tabs => "tabs turned to commas",
             Kind::LineFeed => "line end LF turned to CR LF",
             Kind::CarriageReturn => "line end CR turned to CR LF",
+            Kind::TwoCarriageReturns => "line end CR CR LF turned to CR LF",
             Kind::LastLineEnd => "CR LF added at the end",
             Kind::BlankLastLine if self.first == self.last => "blank last line taken away",
             Kind::BlankLastLine => "blank last lines taken away",
@@ -85,17 +88,20 @@ enum LineEnd {
     CrLf,
     Lf,
     Cr,
+    CrCrLf,
     None,
 }
 
-/// The first line of a text that is not empty, how it ends, and the rest.
+/// The first line of a text that is not empty, how it ends, and the rest. CR CR LF is what turning LF into CR LF twice
+/// leaves, and one end.
 fn split_line(text: &[u8]) -> (&[u8], LineEnd, &[u8]) {
     let Some(at) = text.iter().position(|&byte| byte == b'\r' || byte == b'\n') else {
         return (text, LineEnd::None, &[]);
     };
-    let (end, length) = match (text[at], text.get(at + 1)) {
-        (b'\r', Some(b'\n')) => (LineEnd::CrLf, 2),
-        (b'\r', _) => (LineEnd::Cr, 1),
+    let (end, length) = match &text[at..] {
+        [b'\r', b'\n', ..] => (LineEnd::CrLf, 2),
+        [b'\r', b'\r', b'\n', ..] => (LineEnd::CrCrLf, 3),
+        [b'\r', ..] => (LineEnd::Cr, 1),
         _ => (LineEnd::Lf, 1),
     };
     (&text[..at], end, &text[at + length..])
@@ -178,6 +184,7 @@ fn tidied_lines(whole: &[u8], changes: &mut Changes) -> Vec<u8> {
             LineEnd::CrLf => None,
             LineEnd::Lf => Some(Kind::LineFeed),
             LineEnd::Cr => Some(Kind::CarriageReturn),
+            LineEnd::CrCrLf => Some(Kind::TwoCarriageReturns),
             LineEnd::None => Some(Kind::LastLineEnd),
         };
         separators
@@ -190,7 +197,7 @@ fn tidied_lines(whole: &[u8], changes: &mut Changes) -> Vec<u8> {
 
 /// A path as it can be typed in a shell.
 fn typed(path: &Path) -> String {
-    let shown = path.display().to_string();
+    let shown = words::shown(path);
     let shown = if shown.starts_with('-') {
         format!("./{shown}")
     } else {
@@ -342,7 +349,7 @@ fn tidy(folder: &Path, into: Option<&Path>) -> Result<String, String> {
 pub fn run(folder: &Path, into: Option<&Path>, quiet: bool) -> u8 {
     let (status, words) = match tidy(folder, into) {
         Ok(words) => (COPIED, words),
-        Err(reason) => (NOT_COPIED, format!("nothing is copied: {reason}\n")),
+        Err(reason) => (NOT_COPIED, format!("gorsetumble: nothing is copied: {reason}\n")),
     };
     if !quiet {
         // Words that nobody can read are no failure of the copies.
@@ -455,7 +462,7 @@ mod tests {
         let mut dice = Dice(3);
         for _ in 0..5_000 {
             let lines = dice.good_lines();
-            let end = ["\r\n", "\n", "\r"][dice.below(3)];
+            let end = ["\r\n", "\n", "\r", "\r\r\n"][dice.below(4)];
             let separator = [",", ";", "\t"][dice.below(3)];
             let mut spoilt = joined(&lines, end);
             if dice.below(2) == 0 {

@@ -64,7 +64,9 @@ pub fn ticks(bytes: &[u8]) -> Option<Listing<Tick>> {
     let mut taken = 0;
     let mut ticks = Vec::new();
     for row in rows {
-        let [tick, refused, finished, late, started] = row[..] else { return None };
+        let [tick, refused, finished, late, started] = row[..] else {
+            return None;
+        };
         if number(tick)? != taken as u64 {
             return None;
         }
@@ -88,7 +90,9 @@ pub fn shares(bytes: &[u8]) -> Option<Listing<Share>> {
     };
     let tasks = (1..=MOST_TASKS).find(|n| n * n == rows.len())?;
     let share = |(at, row): (usize, &Vec<&str>)| {
-        let [task, other, interference, weight, share] = row[..] else { return None };
+        let [task, other, interference, weight, share] = row[..] else {
+            return None;
+        };
         let of = Share { task: at / tasks + 1, other: at % tasks + 1, share: number(share)? };
         let agrees = number(task)? == of.task as u64 && number(other)? == of.other as u64;
         let product = number(interference)?.checked_mul(number(weight)?)?;
@@ -197,7 +201,9 @@ mod tests {
         let next = Tick { tick: 1, refused: 0, finished: 8, late: 0, started: 4294967295 };
         let rows = "0,0,0,4,3\r\n1,12,0,0,0\r\n1,0,8,0,4294967295\r\n";
         assert_eq!(of(rows), Some(Listing::Rows(vec![taken, refused, next])));
-        for rows in ["1,0,0,0,0\r\n", "0,12,1,0,0\r\n", "0,5,0,0,0\r\n", "0,0,0,0\r\n", "0,0,0,0,4294967296\r\n", "\r\n"] {
+        for rows in
+            ["1,0,0,0,0\r\n", "0,12,1,0,0\r\n", "0,5,0,0,0\r\n", "0,0,0,0\r\n", "0,0,0,0,4294967296\r\n", "\r\n"]
+        {
             assert_eq!(of(rows), None, "{rows}");
         }
         assert_eq!(ticks(b"task,margin,pass\r\n1,232,1\r\n"), None);

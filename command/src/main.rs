@@ -3,6 +3,7 @@
 #![forbid(unsafe_code)]
 
 mod answer;
+mod cause;
 mod listing;
 mod place;
 mod run;
@@ -11,17 +12,19 @@ mod typed;
 mod unit;
 mod words;
 
-use answer::{Answer, COULD_NOT};
+use answer::{Answer, Asked, COULD_NOT};
 use run::{Programs, Trouble};
 use std::io::{self, Write};
+use std::path::Path;
 use std::process::ExitCode;
-use typed::{Request, Task};
+use typed::{Question, Request};
 
 fn main() -> ExitCode {
     let status = match typed::request(std::env::args_os().skip(1)) {
         Ok(Request::Help) => shown(words::USAGE.as_bytes()),
         Ok(Request::Version) => shown(words::VERSION.as_bytes()),
-        Ok(Request::Do { task, quiet }) => done(&task, quiet),
+        Ok(Request::Ask { question, folder, quiet }) => answered(&question, &folder, quiet),
+        Ok(Request::Tidy { folder, into, quiet }) => tidy::run(&folder, into.as_deref(), quiet),
         Err(wrong) => {
             words::say(&words::wrong_words(&wrong));
             COULD_NOT
@@ -38,27 +41,22 @@ fn shown(text: &[u8]) -> u8 {
     }
 }
 
-fn done(task: &Task, quiet: bool) -> u8 {
-    if let Task::Tidy { folder, into } = task {
-        return tidy::run(folder, into.as_deref(), quiet);
-    }
-    let answer = Programs::of_this_repository().and_then(|programs| asked(&programs, task, quiet));
-    let shown = answer.and_then(|answer| written(&answer.bytes).map(|()| answer));
-    match shown {
+/// The proved program's bytes to standard output, and only if they are out the words and the status.
+fn answered(question: &Question, folder: &Path, quiet: bool) -> u8 {
+    let answer = Programs::of_this_repository().and_then(|programs| {
+        let asked = Asked { programs: &programs, folder, quiet };
+        match question {
+            Question::Admit => asked.admit(),
+            Question::Explain => asked.explain(),
+            Question::Ticks { reports, every_row } => asked.ticks(reports, *every_row),
+        }
+    });
+    match answer.and_then(|answer| written(&answer.bytes).map(|()| answer)) {
         Ok(Answer { status, words, .. }) => {
             words::say(&words);
             status
         }
         Err(trouble) => failed(&trouble, quiet),
-    }
-}
-
-fn asked(programs: &Programs, task: &Task, quiet: bool) -> Result<Answer, Trouble> {
-    match task {
-        Task::Admit { folder } => answer::admit(programs, folder, quiet),
-        Task::Explain { folder } => answer::explain(programs, folder, quiet),
-        Task::Ticks { folder, reports, every_row } => answer::ticks(programs, folder, reports, *every_row, quiet),
-        Task::Tidy { .. } => unreachable!("tidy asks no program"),
     }
 }
 

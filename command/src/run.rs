@@ -35,6 +35,7 @@ pub enum Trouble {
     NotAFolder(PathBuf),
     NotAFile(PathBuf),
     NotStarted(Program, io::Error),
+    NoCopies(io::Error),
     Failed { program: Program, ended: String, said: String },
     NoListing(Program),
     NoStandardOutput(io::Error),

@@ -2,7 +2,7 @@
 //! put right. It changes how the numbers are written down and never a number; whether a copy is good is for the proved
 //! programs to say.
 
-use crate::words;
+use crate::words::shown;
 use std::fs::{self, File};
 use std::io::{self, Read, Write};
 use std::path::{Path, PathBuf};
@@ -69,11 +69,7 @@ impl Changes {
     fn add(&mut self, line: usize, kind: Kind) {
         match self.0.iter_mut().rev().find(|change| change.kind == kind) {
             Some(change) if change.last + 1 == line => change.last = line,
-            _ => self.0.push(Change {
-                first: line,
-                last: line,
-                kind,
-            }),
+            _ => self.0.push(Change { first: line, last: line, kind }),
         }
     }
 
@@ -119,10 +115,7 @@ fn from_utf16(bytes: &[u8]) -> Option<Vec<u8>> {
         return None;
     }
     let plain = |byte: u8| matches!(byte, b'\t' | b'\n' | b'\r' | b' '..=b'~');
-    bytes[2..]
-        .chunks(2)
-        .map(|pair| (pair[high] == 0 && plain(pair[low])).then_some(pair[low]))
-        .collect()
+    bytes[2..].chunks(2).map(|pair| (pair[high] == 0 && plain(pair[low])).then_some(pair[low])).collect()
 }
 
 /// The line with commas: its semicolons, or where it has none its tabs, are taken for separators only if it has no
@@ -134,12 +127,7 @@ fn with_commas(line: &[u8]) -> (Vec<u8>, Option<Kind>) {
         () if line.contains(&b'\t') => (b'\t', Kind::Tabs),
         () => return (line.to_vec(), None),
     };
-    (
-        line.iter()
-            .map(|&byte| if byte == separator { b',' } else { byte })
-            .collect(),
-        Some(kind),
-    )
+    (line.iter().map(|&byte| if byte == separator { b',' } else { byte }).collect(), Some(kind))
 }
 
 /// The text tidied, and what was changed. Quotes, blanks, signs, leading zeros and a header's letters stay, for `admit`
@@ -163,10 +151,7 @@ pub fn tidied(bytes: &[u8]) -> (Vec<u8>, Vec<Change>) {
 
 fn tidied_lines(whole: &[u8], changes: &mut Changes) -> Vec<u8> {
     let mut text = Vec::with_capacity(whole.len() + 2);
-    let blank_from = whole
-        .iter()
-        .rposition(|byte| !matches!(byte, b'\r' | b'\n'))
-        .map_or(0, |last| last + 1);
+    let blank_from = whole.iter().rposition(|byte| !matches!(byte, b'\r' | b'\n')).map_or(0, |last| last + 1);
     let (mut rest, mut line_number) = (whole, 0);
     while !rest.is_empty() {
         let (line, end, behind) = split_line(rest);
@@ -187,40 +172,18 @@ fn tidied_lines(whole: &[u8], changes: &mut Changes) -> Vec<u8> {
             LineEnd::CrCrLf => Some(Kind::TwoCarriageReturns),
             LineEnd::None => Some(Kind::LastLineEnd),
         };
-        separators
-            .into_iter()
-            .chain(end)
-            .for_each(|kind| changes.add(line_number, kind));
+        separators.into_iter().chain(end).for_each(|kind| changes.add(line_number, kind));
     }
     text
-}
-
-/// A path as it can be typed in a shell.
-fn typed(path: &Path) -> String {
-    let shown = words::shown(path);
-    let shown = if shown.starts_with('-') {
-        format!("./{shown}")
-    } else {
-        shown
-    };
-    let plain = |c: char| c.is_alphanumeric() || "._-/+,:@%".contains(c);
-    if !shown.is_empty() && shown.chars().all(plain) {
-        shown
-    } else {
-        format!("'{}'", shown.replace('\'', "'\\''"))
-    }
 }
 
 /// FOLDER with `-tidy` added; for a folder named by `.` or `..` its own name is taken.
 fn beside(folder: &Path) -> Result<PathBuf, String> {
     let named = match folder.file_name() {
         Some(_) => folder.to_path_buf(),
-        None => fs::canonicalize(folder).map_err(|error| format!("{} is not there: {error}", typed(folder)))?,
+        None => fs::canonicalize(folder).map_err(|error| format!("{} is not there: {error}", shown(folder)))?,
     };
-    let mut name = named
-        .file_name()
-        .ok_or("this folder has no name: say where the copies go")?
-        .to_os_string();
+    let mut name = named.file_name().ok_or("this folder has no name: say where the copies go")?.to_os_string();
     name.push("-tidy");
     Ok(named.with_file_name(name))
 }
@@ -228,43 +191,39 @@ fn beside(folder: &Path) -> Result<PathBuf, String> {
 /// Where the copies go, with every symbolic link of the way followed: nowhere where something is, and not into the
 /// folder itself.
 fn target(folder: &Path, into: &Path) -> Result<PathBuf, String> {
-    let shown = typed(into);
-    let whole = fs::canonicalize(folder).map_err(|error| format!("{} is not there: {error}", typed(folder)))?;
+    let name_shown = shown(into);
+    let whole = fs::canonicalize(folder).map_err(|error| format!("{} is not there: {error}", shown(folder)))?;
     if into.symlink_metadata().is_ok() {
-        return Err(format!("{shown} is there already: name a folder that is not"));
+        return Err(format!("{name_shown} is there already: name a folder that is not"));
     }
-    let name = into
-        .file_name()
-        .ok_or_else(|| format!("{shown} has no name of its own"))?;
+    let name = into.file_name().ok_or_else(|| format!("{name_shown} has no name of its own"))?;
     let parent = match into.parent() {
         Some(parent) if parent != Path::new("") => parent,
         _ => Path::new("."),
     };
     let parent = fs::canonicalize(parent)
-        .map_err(|error| format!("the folder that {shown} would stand in is not there: {error}"))?;
+        .map_err(|error| format!("the folder that {name_shown} would stand in is not there: {error}"))?;
     if parent.starts_with(&whole) {
-        return Err(format!("{shown} is inside {}: the copies go elsewhere", typed(folder)));
+        return Err(format!("{name_shown} is inside {}: the copies go elsewhere", shown(folder)));
     }
     Ok(parent.join(name))
 }
 
 /// The bytes of a text of the folder, or none where it is not there.
 fn read_text(path: &Path) -> Result<Option<Vec<u8>>, String> {
-    let shown = typed(path);
+    let file_shown = shown(path);
     let kind = match fs::metadata(path) {
         Err(error) if error.kind() == io::ErrorKind::NotFound && path.symlink_metadata().is_err() => return Ok(None),
-        other => other.map_err(|error| format!("{shown} cannot be read: {error}"))?,
+        other => other.map_err(|error| format!("{file_shown} cannot be read: {error}"))?,
     };
     if !kind.is_file() {
-        return Err(format!("{shown} is not a file"));
+        return Err(format!("{file_shown} is not a file"));
     }
     let mut bytes = Vec::new();
-    let file = File::open(path).map_err(|error| format!("{shown} cannot be read: {error}"))?;
-    file.take(LONGEST + 1)
-        .read_to_end(&mut bytes)
-        .map_err(|error| format!("{shown} cannot be read: {error}"))?;
+    let file = File::open(path).map_err(|error| format!("{file_shown} cannot be read: {error}"))?;
+    file.take(LONGEST + 1).read_to_end(&mut bytes).map_err(|error| format!("{file_shown} cannot be read: {error}"))?;
     if bytes.len() as u64 > LONGEST {
-        return Err(format!("{shown} is over {LONGEST} bytes: no text of a unit is as long"));
+        return Err(format!("{file_shown} is over {LONGEST} bytes: no text of a unit is as long"));
     }
     Ok(Some(bytes))
 }
@@ -277,7 +236,7 @@ struct TidiedText {
 
 fn copies(folder: &Path) -> Result<Vec<TidiedText>, String> {
     if !folder.is_dir() {
-        return Err(format!("{} is not a folder", typed(folder)));
+        return Err(format!("{} is not a folder", shown(folder)));
     }
     let mut copies = Vec::new();
     for name in TEXTS {
@@ -287,7 +246,7 @@ fn copies(folder: &Path) -> Result<Vec<TidiedText>, String> {
         }
     }
     if copies.is_empty() {
-        return Err(format!("{} has none of {}", typed(folder), TEXTS.join(", ")));
+        return Err(format!("{} has none of {}", shown(folder), TEXTS.join(", ")));
     }
     Ok(copies)
 }
@@ -335,13 +294,13 @@ fn tidy(folder: &Path, into: Option<&Path>) -> Result<String, String> {
         None => beside(folder)?,
     };
     let place = target(folder, &into)?;
-    let shown = typed(&into);
-    write_folder(&copies, &place).map_err(|error| format!("{shown} could not be written: {error}"))?;
+    let name_shown = shown(&into);
+    write_folder(&copies, &place).map_err(|error| format!("{name_shown} could not be written: {error}"))?;
     let changes = changes_in_words(&copies);
     Ok(format!(
-        "tidied copies are in {shown}; {} is as it was\n{changes}\
-         the copies are not judged yet: run `gorsetumble admit {shown}`\n",
-        typed(folder)
+        "tidied copies are in {name_shown}; {} is as it was\n{changes}\
+         the copies are not judged yet: run `gorsetumble admit {name_shown}`\n",
+        shown(folder)
     ))
 }
 
@@ -397,33 +356,21 @@ mod tests {
                 b"\0",
             ];
             let pieces = PIECES.len() - self.below(3);
-            (0..self.below(24))
-                .flat_map(|_| PIECES[self.below(pieces)].to_vec())
-                .collect()
+            (0..self.below(24)).flat_map(|_| PIECES[self.below(pieces)].to_vec()).collect()
         }
 
         fn good_lines(&mut self) -> Vec<String> {
             let header = ["cores,partitions", "D,T,C,A", "released,finished"][self.below(3)];
             let columns = header.split(',').count();
-            let mut row = || {
-                (0..columns)
-                    .map(|_| self.below(70_000).to_string())
-                    .collect::<Vec<_>>()
-                    .join(",")
-            };
+            let mut row = || (0..columns).map(|_| self.below(70_000).to_string()).collect::<Vec<_>>().join(",");
             let rows = [row(), row(), row(), row()];
             let count = self.below(5);
-            std::iter::once(header.to_string())
-                .chain(rows.into_iter().take(count))
-                .collect()
+            std::iter::once(header.to_string()).chain(rows.into_iter().take(count)).collect()
         }
     }
 
     fn joined(lines: &[String], end: &str) -> Vec<u8> {
-        lines
-            .iter()
-            .flat_map(|line| format!("{line}{end}").into_bytes())
-            .collect()
+        lines.iter().flat_map(|line| format!("{line}{end}").into_bytes()).collect()
     }
 
     fn changed(first: usize, last: usize, kind: Kind) -> Change {
@@ -431,9 +378,7 @@ mod tests {
     }
 
     fn numbers(text: &[u8]) -> Vec<&[u8]> {
-        text.split(|byte| !byte.is_ascii_digit())
-            .filter(|digits| !digits.is_empty())
-            .collect()
+        text.split(|byte| !byte.is_ascii_digit()).filter(|digits| !digits.is_empty()).collect()
     }
 
     #[test]
@@ -481,10 +426,7 @@ mod tests {
     }
 
     fn utf16(text: &[u8], unit: fn(u16) -> [u8; 2]) -> Vec<u8> {
-        std::iter::once(0xFEFF)
-            .chain(text.iter().map(|&byte| u16::from(byte)))
-            .flat_map(unit)
-            .collect()
+        std::iter::once(0xFEFF).chain(text.iter().map(|&byte| u16::from(byte))).flat_map(unit).collect()
     }
 
     #[test]
@@ -528,18 +470,5 @@ mod tests {
             tidied(&[b'\n'; LONGEST as usize]),
             (Vec::new(), vec![changed(1, LONGEST as usize, Kind::BlankLastLine)])
         );
-    }
-
-    #[test]
-    fn paths_as_they_are_typed() {
-        for (path, shown) in [
-            ("unit-1", "unit-1"),
-            ("-x", "./-x"),
-            ("a b", "'a b'"),
-            ("it's", "'it'\\''s'"),
-            ("", "''"),
-        ] {
-            assert_eq!(typed(Path::new(path)), shown);
-        }
     }
 }

@@ -1,7 +1,7 @@
 //! The words that were typed, and what they ask for.
 
 use std::ffi::{OsStr, OsString};
-use std::path::PathBuf;
+use std::path::{Path, PathBuf};
 
 /// Where the ticks text comes from.
 #[derive(Debug, PartialEq, Eq)]
@@ -12,19 +12,20 @@ pub enum Reports {
     StandardInput,
 }
 
+/// What is asked of the proved programs.
 #[derive(Debug, PartialEq, Eq)]
-pub enum Task {
-    Admit { folder: PathBuf },
-    Explain { folder: PathBuf },
-    Ticks { folder: PathBuf, reports: Reports, every_row: bool },
-    Tidy { folder: PathBuf, into: Option<PathBuf> },
+pub enum Question {
+    Admit,
+    Explain,
+    Ticks { reports: Reports, every_row: bool },
 }
 
 #[derive(Debug, PartialEq, Eq)]
 pub enum Request {
     Help,
     Version,
-    Do { task: Task, quiet: bool },
+    Ask { question: Question, folder: PathBuf, quiet: bool },
+    Tidy { folder: PathBuf, into: Option<PathBuf>, quiet: bool },
 }
 
 #[derive(Default)]
@@ -46,8 +47,7 @@ pub fn request(words: impl IntoIterator<Item = OsString>) -> Result<Request, Str
     }
     let mut named = named.into_iter();
     let name = named.next().ok_or("no command is given")?;
-    let task = task(&name, named.collect(), &options)?;
-    Ok(Request::Do { task, quiet: options.quiet })
+    named_request(&name, named.collect(), &options)
 }
 
 /// Options apart from the other words; behind `--` no word is an option.
@@ -69,7 +69,7 @@ fn sorted(words: impl IntoIterator<Item = OsString>) -> Result<(Options, Vec<OsS
     Ok((options, named))
 }
 
-fn task(name: &OsStr, rest: Vec<OsString>, options: &Options) -> Result<Task, String> {
+fn named_request(name: &OsStr, rest: Vec<OsString>, options: &Options) -> Result<Request, String> {
     let most = match name.to_str() {
         Some("admit" | "explain") => 1,
         Some("ticks" | "tidy") => 2,
@@ -81,32 +81,34 @@ fn task(name: &OsStr, rest: Vec<OsString>, options: &Options) -> Result<Task, St
     if options.every_row && name != "ticks" {
         return Err("--words belongs to ticks".into());
     }
-    let mut rest = rest.into_iter();
-    let first = rest.next();
-    let second = rest.next().map(PathBuf::from);
-    let folder = |word: Option<OsString>| PathBuf::from(word.unwrap_or_else(|| ".".into()));
-    Ok(match name.to_str() {
-        Some("admit") => Task::Admit { folder: folder(first) },
-        Some("explain") => Task::Explain { folder: folder(first) },
-        Some("tidy") => {
-            Task::Tidy { folder: first.map(PathBuf::from).ok_or("tidy needs the unit's folder")?, into: second }
-        }
+    let quiet = options.quiet;
+    let mut rest = rest.into_iter().map(PathBuf::from);
+    let (first, second) = (rest.next(), rest.next());
+    if name == "tidy" {
+        let folder = first.ok_or("tidy needs the unit's folder")?;
+        return Ok(Request::Tidy { folder, into: second, quiet });
+    }
+    let (folder, question) = match name.to_str() {
+        Some("admit") => (first, Question::Admit),
+        Some("explain") => (first, Question::Explain),
         _ => ticks(first, second, options.every_row),
-    })
+    };
+    Ok(Request::Ask { question, folder: folder.unwrap_or_else(|| ".".into()), quiet })
 }
 
 /// A lone `-` is standard input for the unit in the working folder, since no folder is called so without `./`.
-fn ticks(first: Option<OsString>, second: Option<PathBuf>, every_row: bool) -> Task {
+fn ticks(first: Option<PathBuf>, second: Option<PathBuf>, every_row: bool) -> (Option<PathBuf>, Question) {
+    let dash = Path::new("-");
     let (folder, reports) = match (first, second) {
-        (Some(word), None) if word == "-" => (".".into(), Some(PathBuf::from("-"))),
-        (first, second) => (first.unwrap_or_else(|| ".".into()), second),
+        (Some(word), None) if word == dash => (None, Some(word)),
+        both => both,
     };
     let reports = match reports {
         None => Reports::OfFolder,
-        Some(path) if path.as_os_str() == "-" => Reports::StandardInput,
+        Some(path) if path == dash => Reports::StandardInput,
         Some(path) => Reports::File(path),
     };
-    Task::Ticks { folder: folder.into(), reports, every_row }
+    (folder, Question::Ticks { reports, every_row })
 }
 
 fn unknown(word: &OsStr) -> String {
@@ -122,33 +124,37 @@ mod tests {
         request(line.split_whitespace().map(OsString::from))
     }
 
-    fn doing(line: &str) -> (Task, bool) {
+    fn asked(line: &str) -> (Question, PathBuf, bool) {
         match typed(line) {
-            Ok(Request::Do { task, quiet }) => (task, quiet),
+            Ok(Request::Ask { question, folder, quiet }) => (question, folder, quiet),
             other => panic!("{line}: {other:?}"),
         }
     }
 
     #[test]
     fn folders_and_their_defaults() {
-        assert_eq!(doing("admit"), (Task::Admit { folder: ".".into() }, false));
-        assert_eq!(doing("admit unit --quiet"), (Task::Admit { folder: "unit".into() }, true));
-        assert_eq!(doing("-q explain -- -unit"), (Task::Explain { folder: "-unit".into() }, true));
-        assert_eq!(doing("tidy a b").0, Task::Tidy { folder: "a".into(), into: Some("b".into()) });
-        assert_eq!(doing("tidy a").0, Task::Tidy { folder: "a".into(), into: None });
+        assert_eq!(asked("admit"), (Question::Admit, ".".into(), false));
+        assert_eq!(asked("admit unit --quiet"), (Question::Admit, "unit".into(), true));
+        assert_eq!(asked("-q explain -- -unit"), (Question::Explain, "-unit".into(), true));
+        let tidy = |folder: &str, into: Option<&str>, quiet| {
+            Ok(Request::Tidy { folder: folder.into(), into: into.map(PathBuf::from), quiet })
+        };
+        assert_eq!(typed("tidy a b"), tidy("a", Some("b"), false));
+        assert_eq!(typed("tidy --quiet a"), tidy("a", None, true));
     }
 
     #[test]
     fn where_ticks_come_from() {
-        let of = |line| match doing(line).0 {
-            Task::Ticks { folder, reports, every_row } => (folder, reports, every_row),
-            other => panic!("{other:?}"),
-        };
-        assert_eq!(of("ticks"), (".".into(), Reports::OfFolder, false));
-        assert_eq!(of("ticks unit --words"), ("unit".into(), Reports::OfFolder, true));
-        assert_eq!(of("ticks --words unit -"), ("unit".into(), Reports::StandardInput, true));
-        assert_eq!(of("ticks -"), (".".into(), Reports::StandardInput, false));
-        assert_eq!(of("ticks unit log.csv"), ("unit".into(), Reports::File("log.csv".into()), false));
+        let file = Reports::File("log.csv".into());
+        for (line, folder, reports, every_row) in [
+            ("ticks", ".", Reports::OfFolder, false),
+            ("ticks unit --words", "unit", Reports::OfFolder, true),
+            ("ticks --words unit -", "unit", Reports::StandardInput, true),
+            ("ticks -", ".", Reports::StandardInput, false),
+            ("ticks unit log.csv", "unit", file, false),
+        ] {
+            assert_eq!(asked(line), (Question::Ticks { reports, every_row }, folder.into(), false), "{line}");
+        }
     }
 
     #[test]
@@ -163,14 +169,15 @@ mod tests {
 
     #[test]
     fn unknown_words() {
-        for line in ["", "judge", "admit a b", "ticks a b c", "tidy", "tidy a b c", "--loud", "admit -x", "admit --words"]
+        for line in
+            ["", "judge", "admit a b", "ticks a b c", "tidy", "tidy a b c", "--loud", "admit -x", "admit --words"]
         {
             assert!(typed(line).is_err(), "{line}");
         }
         assert!(request([OsString::from_vec(vec![b'-', 0xFF])]).is_err());
         assert!(request([OsString::from_vec(vec![0xFF])]).is_err());
         let odd = OsString::from_vec(vec![b'u', 0xFF, b'\n']);
-        let wanted = Task::Admit { folder: PathBuf::from(&odd) };
-        assert_eq!(request(["admit".into(), odd]), Ok(Request::Do { task: wanted, quiet: false }));
+        let wanted = Request::Ask { question: Question::Admit, folder: PathBuf::from(&odd), quiet: false };
+        assert_eq!(request(["admit".into(), odd]), Ok(wanted));
     }
 }

@@ -74,10 +74,10 @@ impl Unit {
 
     /// What a program writes in a folder with copies of these texts.
     pub fn answer(&self, programs: &Programs, program: Program) -> Result<Vec<u8>, Trouble> {
-        let scratch = Scratch::new().map_err(|error| Trouble::NotStarted(program, error))?;
+        let scratch = Scratch::new().map_err(Trouble::NoCopies)?;
         for form in [&PLATFORM, &TASKS] {
             if let Text::Bytes(bytes) = self.text(form) {
-                scratch.put(form.file, bytes).map_err(|error| Trouble::NotStarted(program, error))?;
+                scratch.put(form.file, bytes).map_err(Trouble::NoCopies)?;
             }
         }
         programs.run(program, &scratch.path, self.reports.given())

@@ -1,0 +1,251 @@
+//! Refusals 1 to 8 and 15 in words: where, what stands there, what may stand there, the likely cause, the cure.
+
+use super::{counted, shown};
+use crate::cause::{cause, Fault};
+use crate::listing::Refused;
+use crate::place::{self, Form, Place, State, PLATFORM, TASKS};
+use crate::unit::{Text, Unit, LONGEST};
+use std::path::Path;
+
+/// Of a line so many bytes are shown from the place on.
+const SHOWN: usize = 40;
+
+/// What a number of a table's refusal means.
+pub fn meaning(number: u32) -> &'static str {
+    match number {
+        1 => "there is no task, or there are more than 32",
+        2 => "cores is 0 or above 16",
+        3 => "partitions is 0 or above 64",
+        4 => "T is 0 or above 65,535",
+        5 => "C is 0",
+        6 => "C is above D",
+        7 => "D is above T",
+        8 => "A is above the platform's partitions",
+        9 => "a tick names a task that the table does not have",
+        10 => "a tick says that a task finished which was not running",
+        11 => "a job has run its whole C and the tick does not say that it finished",
+        12 => "a task is released before its period is over",
+        13 => "a task is released while its last job is unfinished",
+        14 => "the machine's state is not one that set-up and ticks could leave",
+        15 => "a text is not of the wanted form",
+        _ => "the room given for the answer is too short",
+    }
+}
+
+/// What to do about it.
+pub fn cure(number: u32) -> &'static str {
+    match number {
+        1 => "put 1 to 32 rows into tasks.csv",
+        2 | 3 => "correct platform.csv",
+        4 => "give the period in ticks; choose a longer tick if it does not fit",
+        5 => "give the longest run, at least 1 tick",
+        6 => "the job could never end in time: shorten the run or give it longer",
+        7 => "a job must end before the next one comes: lower D or raise T",
+        8 => "lower A, or use a board with more partitions",
+        9 => "correct the report: no task above the table's last",
+        10 => "look at the log that the ticks came from",
+        11 => "its C is too small, or the report lost the finish",
+        12 => "its T is too large, or the sender sends too often",
+        13 => "the table was not admitted, or was not the one set up",
+        14 => "set the unit up anew; if it comes back, the memory is overwritten by something else",
+        15 => "look at the byte at the place",
+        _ => "give a longer buffer",
+    }
+}
+
+/// The first line of every refusal.
+pub fn headline(number: u32) -> String {
+    format!("refused, number {number}: {}\n", meaning(number))
+}
+
+/// Refusal 15, in a text that goes by this name. `None`: the text is not as the refusal says.
+pub fn of_text(name: &str, folder: &Path, form: &'static Form, text: &Text, offset: usize) -> Option<String> {
+    let whole = Fault { form, text, place: Place::FIRST };
+    let fault = match whole.has_place() {
+        true => Fault { place: place::place(form, text.given(), offset)?, ..whole },
+        false if offset == 0 => whole,
+        false => return None,
+    };
+    let mut words = headline(15);
+    words += &format!("  where: {name}, {}\n", whereabouts(&fault));
+    if fault.has_place() {
+        words += &pointed(&fault);
+    }
+    words += &format!("  there stands: {}\n", standing(&fault));
+    words += &format!("  may stand there: {}\n", may_stand(&fault));
+    let cause = cause(&fault);
+    words += &format!("  likely cause ({}): {}\n  cure: {}\n", cause.name, cause.likely, cause.cure);
+    if cause.tidy {
+        words += &format!("  or: gorsetumble tidy {} writes a copy in which this is mended\n", shown(folder));
+    }
+    Some(words)
+}
+
+fn whereabouts(fault: &Fault) -> String {
+    let place = &fault.place;
+    let row = match place.row() {
+        0 => "the header".into(),
+        row => format!("row {row}"),
+    };
+    match fault.has_place() {
+        true => format!("line {} ({row}), column {}; place {}, counted from 0", place.line, place.column, place.offset),
+        false => "the file as a whole; place 0".into(),
+    }
+}
+
+/// The line, and a caret under the place.
+fn pointed(fault: &Fault) -> String {
+    let (start, offset) = (fault.place.line_start(), fault.place.offset);
+    let before: String = fault.bytes()[start..offset].iter().map(|&byte| readable(byte)).collect();
+    let rest = &fault.bytes()[offset..];
+    let line = rest.iter().position(|&byte| byte == b'\n').map_or(rest.len(), |at| at + 1);
+    let after: String = rest[..line.min(SHOWN)].iter().map(|&byte| readable(byte)).collect();
+    let more = match () {
+        () if line > SHOWN => " ...",
+        () if line == rest.len() && rest.last() != Some(&b'\n') => "<end>",
+        () => "",
+    };
+    format!("      {before}{after}{more}\n      {}^\n", " ".repeat(before.chars().count()))
+}
+
+/// A byte within a line that is shown.
+fn readable(byte: u8) -> String {
+    match byte {
+        b'\r' => "<CR>".into(),
+        b'\n' => "<LF>".into(),
+        b'\t' => "<TAB>".into(),
+        0x20..=0x7E => char::from(byte).into(),
+        _ => format!("<{byte:02X}>"),
+    }
+}
+
+fn standing(fault: &Fault) -> String {
+    match fault.text {
+        Text::Missing => "no file of this name".into(),
+        Text::Unreadable(error) => format!("nothing that can be read ({error})"),
+        Text::Bytes(bytes) if bytes.is_empty() => "nothing: the file is empty".into(),
+        Text::Bytes(bytes) if bytes.len() > LONGEST => "more than 60,000 bytes".into(),
+        Text::Bytes(_) => fault.found().map_or("the end of the file".into(), named),
+    }
+}
+
+/// A byte by its name.
+fn named(byte: u8) -> String {
+    match byte {
+        b'\r' => "CR".into(),
+        b'\n' => "LF".into(),
+        b'\t' => "a tab".into(),
+        b' ' => "a blank".into(),
+        b',' => "a comma".into(),
+        b'"' => "a quote (\")".into(),
+        b'0'..=b'9' => format!("the digit {}", char::from(byte)),
+        b'A'..=b'Z' | b'a'..=b'z' => format!("the letter {}", char::from(byte)),
+        0x21..=0x7E => format!("`{}`", char::from(byte)),
+        _ => format!("byte 0x{byte:02X}"),
+    }
+}
+
+fn may_stand(fault: &Fault) -> String {
+    let (form, place) = (fault.form, &fault.place);
+    let header = form.header;
+    match place.state {
+        _ if !fault.has_place() => format!("a text of at most 60,000 bytes that begins with the header {header}"),
+        State::Header(done) => match header.as_bytes().get(done) {
+            Some(&due) => format!("{} of the header {header}", named(due)),
+            None => format!("CR LF, the end of the header {header}"),
+        },
+        State::AfterCr => "LF, which makes the line's end with the CR before it".into(),
+        State::LineStart => match (place.may_stand(form).is_empty(), place.may_end(form)) {
+            (true, _) => "the end of the file, and no more".into(),
+            (false, true) => "a digit, which begins another row, or the end of the file".into(),
+            (false, false) => "a digit, which begins the row".into(),
+        },
+        State::Before { column } => format!("a digit, which begins {}", column_name(form, column)),
+        State::Within { column, .. } => within(fault, column),
+    }
+}
+
+fn within(fault: &Fault, column: usize) -> String {
+    let may = fault.place.may_stand(fault.form);
+    let digits: Vec<u8> = may.iter().copied().filter(u8::is_ascii_digit).collect();
+    let end = match column + 1 == fault.form.columns {
+        true => format!("CR LF after {}, the last column", column_name(fault.form, column)),
+        false => format!("a comma after {}", column_name(fault.form, column)),
+    };
+    match (digits.len(), digits.last()) {
+        (10, _) => format!("a further digit, or {end}"),
+        (_, Some(&most)) => format!("a digit from 0 to {}, or {end}", char::from(most)),
+        (_, None) => end,
+    }
+}
+
+fn column_name(form: &Form, column: usize) -> &'static str {
+    form.header.split(',').nth(column).unwrap_or_default()
+}
+
+/// A refusal 1 to 8 of a table. `None`: the texts are not as the refusal says.
+pub fn of_table(unit: &Unit, refused: Refused) -> Option<String> {
+    let platform = place::rows(&PLATFORM, unit.platform.given())?;
+    let tasks = place::rows(&TASKS, unit.tasks.given())?;
+    let (platform_start, board) = platform.first()?;
+    let (cores, partitions) = (board[0], board[1]);
+    let said = match (refused.number, refused.row) {
+        (1, 0) => of_count(tasks.len())?,
+        (2, 0) if !(1..=16).contains(&cores) => {
+            let stands = format!("cores is {cores}");
+            of_row(&PLATFORM, unit, *platform_start, 0, 1, &stands, "cores from 1 to 16") + ROW_0
+        }
+        (3, 0) if !(1..=64).contains(&partitions) => {
+            let stands = format!("partitions is {partitions}");
+            of_row(&PLATFORM, unit, *platform_start, 1, 1, &stands, "partitions from 1 to 64") + ROW_0
+        }
+        (number, row) => {
+            let (start, task) = tasks.get(row.checked_sub(1)?)?;
+            let (column, stands, may) = of_task(number, task, partitions)?;
+            of_row(&TASKS, unit, *start, column, row, &stands, &may)
+        }
+    };
+    Some(headline(refused.number) + &said + &format!("  cure: {}\n", cure(refused.number)))
+}
+
+const ROW_0: &str = "  the listing says row 0: the fault is the board's, and in no row of tasks.csv\n";
+
+fn of_count(rows: usize) -> Option<String> {
+    let stands = match rows {
+        1..=32 => return None,
+        0 => "no row under the header".into(),
+        _ => counted(rows, "row"),
+    };
+    let row_0 = "the listing says row 0: how many rows there are is at fault, and no single row";
+    Some(format!(
+        "  where: tasks.csv, the file as a whole\n  there stands: {stands}\n  may stand there: 1 to 32 rows\n  {row_0}\n"
+    ))
+}
+
+/// The column at fault, what stands there and what may: for refusals 4 to 8 of a row.
+fn of_task(number: u32, task: &[u32], partitions: u32) -> Option<(usize, String, String)> {
+    let [d, t, c, a] = *task else { return None };
+    let fits = |holds: bool, column, stands: String, may: &str| holds.then(|| (column, stands, may.into()));
+    match number {
+        4 => fits(!(1..=65535).contains(&t), 1, format!("T is {t}"), "T from 1 to 65,535"),
+        5 => fits(c == 0, 2, format!("C is {c}"), "C from 1 to D"),
+        6 => fits(c > d, 2, format!("C is {c} and D is {d}"), "C from 1 to D"),
+        7 => fits(d > t, 0, format!("D is {d} and T is {t}"), "D from C to T"),
+        8 => {
+            let stands = format!("A is {a}, and platform.csv has {}", counted(partitions as usize, "partition"));
+            fits(a > partitions, 3, stands, &format!("A from 0 to {partitions}"))
+        }
+        _ => None,
+    }
+}
+
+/// A row as it stands, a caret under the column, and the words for it.
+fn of_row(form: &Form, unit: &Unit, start: usize, column: usize, row: usize, stands: &str, may: &str) -> String {
+    let text = &unit.text(form).given()[start..];
+    let line = text.split(|&byte| byte == b'\r').next().unwrap_or_default();
+    let line: String = line.iter().copied().map(char::from).collect();
+    let before: usize = line.split(',').take(column).map(|cell| cell.len() + 1).sum();
+    let pointer = format!("      {line}\n      {}^\n", " ".repeat(before));
+    let place = format!("  where: {}, line {} (row {row}), column {}\n", form.file, row + 1, column_name(form, column));
+    format!("{place}{pointer}  there stands: {stands}\n  may stand there: {may}\n")
+}

@@ -111,11 +111,12 @@ fn from_utf16(bytes: &[u8]) -> Option<Vec<u8>> {
         [0xFE, 0xFF] => (1, 0),
         _ => return None,
     };
-    if bytes.len() % 2 != 0 {
+    let pairs = bytes[2..].chunks_exact(2);
+    if !pairs.remainder().is_empty() {
         return None;
     }
     let plain = |byte: u8| matches!(byte, b'\t' | b'\n' | b'\r' | b' '..=b'~');
-    bytes[2..].chunks(2).map(|pair| (pair[high] == 0 && plain(pair[low])).then_some(pair[low])).collect()
+    pairs.map(|pair| (pair[high] == 0 && plain(pair[low])).then_some(pair[low])).collect()
 }
 
 /// The line with commas: its semicolons, or where it has none its tabs, are taken for separators only if it has no

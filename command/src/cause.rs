@@ -151,18 +151,18 @@ fn exponent(fault: &Fault) -> bool {
 }
 
 /// The most telling first: a text as a whole, how it is coded, its header, its line ends, and then cells.
-static CAUSES: [Cause; 47] = [
+static CAUSES: &[Cause] = &[
     Cause {
         name: "missing",
         applies: |f| *f.text == Text::Missing,
-        likely: "the file is not in the folder, or has another name (capital letters count, and so does .csv.txt)",
+        likely: "the file is not there, or has another name (capital letters count)",
         cure: "put the file into the unit's folder under this very name",
         tidy: false,
     },
     Cause {
         name: "unreadable",
         applies: |f| matches!(f.text, Text::Unreadable(_)),
-        likely: "there is something of this name, and it cannot be read: a folder, or a file of somebody else's",
+        likely: "a folder has this name, or a file that you may not read",
         cure: "put a file that you may read into its place",
         tidy: false,
     },
@@ -170,8 +170,7 @@ static CAUSES: [Cause; 47] = [
         name: "too long",
         applies: |f| f.bytes().len() > LONGEST,
         likely: "the file has more than 60,000 bytes, and no program takes a longer one",
-        cure:
-            "look whether it is the right file; a ticks text is run on a fresh machine, so a part of one is another run",
+        cure: "look whether it is the right file; a part of a ticks text is another run, on a fresh machine",
         tidy: false,
     },
     Cause {
@@ -191,28 +190,28 @@ static CAUSES: [Cause; 47] = [
     Cause {
         name: "BOM",
         applies: |f| f.place.offset == 0 && f.bytes().starts_with(b"\xEF\xBB\xBF"),
-        likely: "the file begins with a byte order mark (EF BB BF), as \"CSV UTF-8\" of a spreadsheet writes it",
+        likely: "a byte order mark (EF BB BF) stands first, as \"CSV UTF-8\" of a spreadsheet has it",
         cure: "save it without the mark (plain CSV; \"UTF-8\" and not \"UTF-8 with BOM\" in an editor)",
         tidy: true,
     },
     Cause {
         name: "UTF-16",
         applies: utf16_marked_ascii,
-        likely: "the file is in UTF-16, two bytes for each letter, as \"Unicode text\" of a spreadsheet writes it",
+        likely: "two bytes stand for each letter, as in \"Unicode text\" of a spreadsheet",
         cure: "save it as plain CSV, or as UTF-8 without a byte order mark",
         tidy: true,
     },
     Cause {
         name: "UTF-16 with other letters",
         applies: utf16_marked,
-        likely: "the file is in UTF-16, two bytes for each letter, and has letters that no good text has",
+        likely: "two bytes stand for each letter, and not all are ASCII",
         cure: "save it as UTF-8 without a byte order mark, and ask again",
         tidy: false,
     },
     Cause {
         name: "UTF-16 without its mark",
         applies: utf16_unmarked,
-        likely: "the file is in UTF-16, two bytes for each letter, without its mark",
+        likely: "two bytes stand for each letter, and no mark before them",
         cure: "save it as UTF-8 without a byte order mark",
         tidy: false,
     },
@@ -247,7 +246,7 @@ static CAUSES: [Cause; 47] = [
     Cause {
         name: "semicolons",
         applies: |f| f.is(b";") && !f.line_has(b','),
-        likely: "semicolons stand between the cells, as a spreadsheet writes them where the decimal mark is a comma",
+        likely: "they stand between the cells, as where a spreadsheet has decimal commas",
         cure: "save with commas between the cells",
         tidy: true,
     },
@@ -261,7 +260,7 @@ static CAUSES: [Cause; 47] = [
     Cause {
         name: "tabs",
         applies: |f| f.is(b"\t") && !f.line_has(b','),
-        likely: "tabs stand between the cells, as a spreadsheet writes \"text\" or a copied table",
+        likely: "they stand between the cells, as in a copied table",
         cure: "save with commas between the cells",
         tidy: true,
     },
@@ -282,14 +281,14 @@ static CAUSES: [Cause; 47] = [
     Cause {
         name: "no header",
         applies: |f| f.place.offset == 0 && f.found().is_some_and(|byte| byte.is_ascii_digit()),
-        likely: "the header is missing: the first line has numbers",
+        likely: "the first line has numbers",
         cure: "write the header as the first line",
         tidy: false,
     },
     Cause {
         name: "header in other case",
         applies: |f| f.in_header() && f.line() != f.form.header.as_bytes() && same_but_for_case(f),
-        likely: "the header has capital and small letters otherwise",
+        likely: "capital and small letters are not as they have to be",
         cure: "write the header just as it is shown above",
         tidy: false,
     },
@@ -303,7 +302,7 @@ static CAUSES: [Cause; 47] = [
     Cause {
         name: "header with too many columns",
         applies: |f| f.whole_header() && f.is(b","),
-        likely: "there are too many columns: something stands to the right of the table, or a comma too many",
+        likely: "something stands to the right of the table, or a comma",
         cure: "delete what is to the right of the last column, in every line",
         tidy: false,
     },
@@ -317,14 +316,14 @@ static CAUSES: [Cause; 47] = [
     Cause {
         name: "LF line ends",
         applies: |f| f.is(b"\n") && f.may(b'\r'),
-        likely: "the line ends in LF alone, as editors and spreadsheets write it on Linux and macOS",
+        likely: "the line ends in LF alone, as on Linux and macOS",
         cure: "save with CR LF line ends (in an editor: \"CRLF\", \"DOS\" or \"Windows\" line ends)",
         tidy: true,
     },
     Cause {
         name: "header with too few columns",
         applies: |f| f.in_header() && f.may(b',') && (f.is(b"\r\n") || f.found().is_none()),
-        likely: "there are too few columns: the header ends too early",
+        likely: "the header ends too early",
         cure: "write all columns, header and numbers",
         tidy: false,
     },
@@ -387,7 +386,7 @@ static CAUSES: [Cause; 47] = [
     Cause {
         name: "row of empty cells",
         applies: |f| f.place.state == State::LineStart && f.line().iter().all(|&b| b == b',') && f.is(b","),
-        likely: "a row of empty cells, as a spreadsheet writes a row that was filled once and then cleared",
+        likely: "in the spreadsheet this row was filled once and then cleared",
         cure: "delete the row (in the spreadsheet: delete the row itself, not only what is in it)",
         tidy: false,
     },
@@ -429,21 +428,21 @@ static CAUSES: [Cause; 47] = [
     Cause {
         name: "too few columns",
         applies: |f| f.is(b"\r\n"),
-        likely: "the row has too few columns",
+        likely: "the row ends too early",
         cure: "write all the columns that the header has",
         tidy: false,
     },
     Cause {
         name: "too many columns",
         applies: |f| f.in_last_column() && f.is(b","),
-        likely: "the row has too many columns: something stands to the right of the table, or a comma is in a number",
+        likely: "something stands to the right of the table, or a comma in a number",
         cure: "leave as many numbers as the header has names, whole ones and without marks for thousands",
         tidy: false,
     },
     Cause {
         name: "sign",
         applies: sign,
-        likely: "a number has a sign",
+        likely: "a number has one",
         cure: "write it without a sign; no number of a unit is negative",
         tidy: false,
     },
@@ -464,7 +463,7 @@ static CAUSES: [Cause; 47] = [
     Cause {
         name: "leading zero",
         applies: |f| matches!(f.place.state, State::Within { value: 0, .. }) && f.is(b"0123456789"),
-        likely: "a number has a leading zero",
+        likely: "a number begins with 0 and goes on",
         cure: "write it without: 7 and not 07",
         tidy: false,
     },

@@ -43,14 +43,8 @@ fn shown(text: &[u8]) -> u8 {
 
 /// The proved program's bytes to standard output, and only if they are out the words and the status.
 fn answered(question: &Question, folder: &Path, quiet: bool) -> u8 {
-    let answer = Programs::of_this_repository().and_then(|programs| {
-        let asked = Asked { programs: &programs, folder, quiet };
-        match question {
-            Question::Admit => asked.admit(),
-            Question::Explain => asked.explain(),
-            Question::Ticks { reports, every_row } => asked.ticks(reports, *every_row),
-        }
-    });
+    let answer = Programs::of_this_repository()
+        .and_then(|programs| Asked { programs: &programs, folder, quiet }.answer(question));
     match answer.and_then(|answer| written(&answer.bytes).map(|()| answer)) {
         Ok(Answer { status, words, .. }) => {
             words::say(&words);

@@ -240,7 +240,7 @@ pub mod tests {
     fn what_may_stand_is_what_some_good_text_has() {
         let mut draw = Draw(1);
         let mut states = std::collections::HashSet::new();
-        for round in 0..1500 {
+        for round in 0..300 {
             let form = FORMS[round % 3];
             let text = draw.damaged(form);
             if is_good(form, &text) {
@@ -261,7 +261,7 @@ pub mod tests {
     #[test]
     fn no_other_offset_is_a_place() {
         let mut draw = Draw(2);
-        for round in 0..600 {
+        for round in 0..300 {
             let form = FORMS[round % 3];
             let text = draw.damaged(form);
             let wanted = (!is_good(form, &text)).then(|| offset_by_trying(form, &text));
@@ -274,7 +274,7 @@ pub mod tests {
     #[test]
     fn lines_and_columns_are_those_of_the_bytes() {
         let mut draw = Draw(3);
-        for round in 0..3000 {
+        for round in 0..900 {
             let form = FORMS[round % 3];
             let text = draw.damaged(form);
             let offset = offset_by_trying(form, &text);

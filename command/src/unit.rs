@@ -83,8 +83,9 @@ impl Unit {
         programs.run(program, &scratch.path, self.reports.given())
     }
 
-    /// The text that a refusal 15 is about: the first one that is refused with the same place when the others are good.
-    /// That a text is not good is the proved program's answer, never this command's.
+    /// The text that a refusal 15 is about: the first one, in the programs' order, that is refused when the others are
+    /// good. That it is not good is the proved program's answer, never this command's. `None`: its place is another one,
+    /// or no text is refused, so that these are not the texts of the answer.
     pub fn refused_text(
         &self,
         programs: &Programs,

@@ -3,7 +3,7 @@
 use super::{counted, tasks};
 use crate::listing::{Margin, Share};
 
-/// So many tasks are shown at length by `admit`.
+/// So many tasks that do not pass are shown at length by `admit`.
 const AT_LENGTH: usize = 5;
 
 /// So many shares of a task are shown one by one.
@@ -29,9 +29,10 @@ pub fn headline(rows: &[Margin]) -> String {
         (0, 1) => format!("admitted: the one task passes{least}\n"),
         (0, all) => format!("admitted: all {all} tasks pass{least}\n"),
         (1, all) => format!("not admitted: {} of {all} does not pass{least}\n", tasks(&failing)),
-        (count, all) => {
-            format!("not admitted: {count} of {all} tasks do not pass, {}{least}\n", tasks(&failing))
+        (count, all) if count <= AT_LENGTH => {
+            format!("not admitted: {} of {all} do not pass{least}\n", tasks(&failing))
         }
+        (count, all) => format!("not admitted: {count} of {all} tasks do not pass{least}\n"),
     }
 }
 

@@ -58,8 +58,19 @@ pub fn headline(number: u32) -> String {
     format!("refused, number {number}: {}\n", meaning(number))
 }
 
-/// Refusal 15, in a text that goes by this name. `None`: the text is not as the refusal says.
-pub fn of_text(name: &str, folder: &Path, form: &'static Form, text: &Text, offset: usize) -> Option<String> {
+/// Of what is neither a text nor a table: its meaning and cure.
+pub fn of_number(number: u32) -> String {
+    headline(number) + &format!("  cure: {}\n", cure(number))
+}
+
+/// A text by the name that it was given under, and the unit's folder.
+pub struct Source<'a> {
+    pub name: &'a str,
+    pub folder: &'a Path,
+}
+
+/// Refusal 15 in a text. `None`: the text is not as the refusal says.
+pub fn of_text(source: &Source, form: &'static Form, text: &Text, offset: usize) -> Option<String> {
     let whole = Fault { form, text, place: Place::FIRST };
     let fault = match whole.has_place() {
         true => Fault { place: place::place(form, text.given(), offset)?, ..whole },
@@ -67,7 +78,7 @@ pub fn of_text(name: &str, folder: &Path, form: &'static Form, text: &Text, offs
         false => return None,
     };
     let mut words = headline(15);
-    words += &format!("  where: {name}, {}\n", whereabouts(&fault));
+    words += &format!("  where: {}, {}\n", source.name, whereabouts(&fault));
     if fault.has_place() {
         words += &pointed(&fault);
     }
@@ -76,9 +87,18 @@ pub fn of_text(name: &str, folder: &Path, form: &'static Form, text: &Text, offs
     let cause = cause(&fault);
     words += &format!("  likely cause ({}): {}\n  cure: {}\n", cause.name, cause.likely, cause.cure);
     if cause.tidy {
-        words += &format!("  or: gorsetumble tidy {} writes a copy in which this is mended\n", shown(folder));
+        words += &tidied(source, form);
     }
     Some(words)
+}
+
+/// `tidy` looks at the files of the folder alone.
+fn tidied(source: &Source, form: &Form) -> String {
+    let folder = shown(source.folder);
+    match source.name == form.file {
+        true => format!("  or: gorsetumble tidy {folder} writes a copy in which this is mended\n"),
+        false => format!("  or: as {} of the folder it is mended in a copy by gorsetumble tidy {folder}\n", form.file),
+    }
 }
 
 fn whereabouts(fault: &Fault) -> String {
@@ -151,6 +171,7 @@ fn may_stand(fault: &Fault) -> String {
     match place.state {
         _ if !fault.has_place() => format!("a text of at most 60,000 bytes that begins with the header {header}"),
         State::Header(done) => match header.as_bytes().get(done) {
+            Some(b',') => format!("the comma that follows {} in the header {header}", &header[..done]),
             Some(&due) => format!("{} of the header {header}", named(due)),
             None => format!("CR LF, the end of the header {header}"),
         },

@@ -46,8 +46,8 @@ impl Asked<'_> {
         };
         let words = self.words(|| match &listing {
             Listing::Refused(refused) => self.refusal_words(Program::Admit, &bytes, *refused, &NO_REPORTS),
-            Listing::Rows(rows) if status == GOOD => Ok(margins::headline(rows)),
-            Listing::Rows(rows) => self.not_admitted_words(&bytes, rows),
+            Listing::Rows(rows) if status == GOOD => margins::headline(rows),
+            Listing::Rows(rows) => below(margins::headline(rows), self.not_admitted_words(&bytes, rows)),
         });
         Ok(Answer { bytes, status, words })
     }
@@ -66,14 +66,24 @@ impl Asked<'_> {
             return Err(Trouble::Changed);
         };
         let words = self.words(|| {
-            let unit = self.same_unit(Program::Admit, &margin_bytes, &NO_REPORTS)?;
-            if unit.answer(self.programs, Program::Explain)? != bytes {
-                return Err(Trouble::Changed);
-            }
-            let explained = explained(&unit, rows.len(), shares)?;
-            Ok(margins::headline(&rows) + &margins::every_task(&rows, &explained))
+            let every_task = self.every_task_words(&margin_bytes, &rows, &bytes, shares);
+            below(margins::headline(&rows), every_task)
         });
         Ok(Answer { bytes, status: verdict(&rows), words })
+    }
+
+    fn every_task_words(
+        &self,
+        margin_bytes: &[u8],
+        rows: &[Margin],
+        share_bytes: &[u8],
+        shares: Vec<Share>,
+    ) -> Result<String, Trouble> {
+        let unit = self.same_unit(Program::Admit, margin_bytes, &NO_REPORTS)?;
+        if unit.answer(self.programs, Program::Explain)? != share_bytes {
+            return Err(Trouble::Changed);
+        }
+        Ok(margins::every_task(rows, &explained(&unit, rows.len(), shares)?))
     }
 
     fn ticks(&self, reports: &Reports, every_row: bool) -> Result<Answer, Trouble> {
@@ -87,7 +97,7 @@ impl Asked<'_> {
         };
         let words = self.words(|| match &listing {
             Listing::Refused(refused) => self.refusal_words(Program::Ticks, &bytes, *refused, &reports),
-            Listing::Rows(rows) => ticks_words(&reports, rows, every_row),
+            Listing::Rows(rows) => below(String::new(), ticks_words(&reports, rows, every_row)),
         });
         Ok(Answer { bytes, status, words })
     }
@@ -109,11 +119,10 @@ impl Asked<'_> {
         })
     }
 
-    /// Words, or why there are none: that never changes the answer.
-    fn words(&self, words: impl FnOnce() -> Result<String, Trouble>) -> String {
+    fn words(&self, words: impl FnOnce() -> String) -> String {
         match self.quiet {
             true => String::new(),
-            false => words().unwrap_or_else(|trouble| words::no_words(&trouble)),
+            false => words(),
         }
     }
 
@@ -126,21 +135,24 @@ impl Asked<'_> {
         }
     }
 
-    fn refusal_words(
+    fn refusal_words(&self, program: Program, bytes: &[u8], refused: Refused, reports: &Named) -> String {
+        let details = match refused.number {
+            1..=8 => self.table_words(program, bytes, refused, reports),
+            15 => self.text_words(program, refused, reports),
+            number => Ok(refusal::of_number(number)),
+        };
+        below(refusal::headline(refused.number), details)
+    }
+
+    fn table_words(
         &self,
         program: Program,
         bytes: &[u8],
         refused: Refused,
         reports: &Named,
     ) -> Result<String, Trouble> {
-        match refused.number {
-            1..=8 => {
-                let unit = self.same_unit(program, bytes, reports)?;
-                refusal::of_table(&unit, refused).ok_or(Trouble::Changed)
-            }
-            15 => self.text_words(program, refused, reports),
-            number => Ok(refusal::of_number(number)),
-        }
+        let unit = self.same_unit(program, bytes, reports)?;
+        refusal::of_table(&unit, refused).ok_or(Trouble::Changed)
     }
 
     fn text_words(&self, program: Program, refused: Refused, reports: &Named) -> Result<String, Trouble> {
@@ -154,7 +166,7 @@ impl Asked<'_> {
     fn not_admitted_words(&self, bytes: &[u8], rows: &[Margin]) -> Result<String, Trouble> {
         if !self.programs.built(Program::Explain) {
             let why = words::no_words(&Trouble::NotBuilt(Program::Explain));
-            return Ok(margins::headline(rows) + &margins::margins_only(rows) + &why);
+            return Ok(margins::margins_only(rows) + &why);
         }
         let unit = self.same_unit(Program::Admit, bytes, &NO_REPORTS)?;
         let listed = unit.answer(self.programs, Program::Explain)?;
@@ -162,7 +174,7 @@ impl Asked<'_> {
             return Err(Trouble::NoListing(Program::Explain));
         };
         let explained = explained(&unit, rows.len(), shares)?;
-        Ok(margins::headline(rows) + &margins::not_admitted(rows, &explained))
+        Ok(margins::not_admitted(rows, &explained))
     }
 }
 
@@ -173,6 +185,16 @@ struct Named {
 }
 
 const NO_REPORTS: Named = Named { name: String::new(), text: Text::Missing };
+
+/// The headline, which rests on the listing alone, and the details below it or why there are none. Words about texts
+/// that are no longer those of the listing are not said at all.
+fn below(headline: String, details: Result<String, Trouble>) -> String {
+    match details {
+        Ok(details) => headline + &details,
+        Err(Trouble::Changed) => words::CHANGED.into(),
+        Err(trouble) => headline + &words::no_words(&trouble),
+    }
+}
 
 fn verdict(rows: &[Margin]) -> u8 {
     match rows.iter().all(|row| row.passes) {
@@ -253,7 +275,9 @@ mod tests {
 
     const TWO_FAIL: &str = r"case $1 in
         admit) printf 'task,margin,pass\r\n1,-6,0\r\n2,-6,0\r\n' ;;
-        explain) printf 'task,other,interference,weight,share\r\n1,1,4,1,4\r\n1,2,6,1,6\r\n2,1,4,1,4\r\n2,2,6,1,6\r\n' ;;
+        explain)
+            printf 'task,other,interference,weight,share\r\n1,1,4,1,4\r\n1,2,6,1,6\r\n'
+            printf '2,1,4,1,4\r\n2,2,6,1,6\r\n' ;;
         esac";
 
     #[test]
@@ -354,7 +378,7 @@ mod tests {
             tick 1: finished task 1; late tasks 2 and 4; started task 3\n\
             3 rows: 2 ticks taken, 1 row refused, 1 tick with late tasks\n\
             reports.csv, line 3 (row 2): refused, number 12: a task is released before its period is over\n\
-            \x20 the row: released task 1; finished tasks 1 and 4; nothing happened, the tick is not counted\n\
+            \x20 the row: released task 1; finished tasks 1 and 4. Nothing happened, the tick is not counted\n\
             \x20 cure: its T is too large, or the sender sends too often\n\
             reports.csv, line 4 (row 3), tick 1: late: tasks 2 and 4\n";
         assert!(words.starts_with(wanted), "{words}");
@@ -378,6 +402,35 @@ mod tests {
             Some(Trouble::Failed { ended, .. }) => assert_eq!(ended, "signal 11"),
             other => panic!("{other:?}"),
         }
+    }
+
+    #[test]
+    fn words_that_cannot_be_made_leave_the_headline() {
+        let behaviour = r"[ -e here ] || exit 1
+            case $1 in
+            admit) printf 'task,margin,pass\r\n1,1,1\r\n2,-6,0\r\n' ;;
+            ticks) printf 'refused,row\r\n15,0\r\n' ;;
+            esac";
+        let stand_in = StandIn::new(&["admit", "ticks", "explain"], behaviour);
+        for (question, status, headline) in [
+            (
+                Question::Admit,
+                NOT_ADMITTED,
+                "not admitted: task 2 of 2 does not pass; the least margin is task 2's, -6",
+            ),
+            (TICKS, REFUSED, "refused, number 15: a text is not of the wanted form"),
+        ] {
+            let (_, got, words) = stand_in.answer(&question);
+            assert_eq!(got, status);
+            assert!(words.starts_with(&format!("{headline}\nno words for it: the program ")), "{words}");
+        }
+    }
+
+    #[test]
+    fn a_program_that_reads_nothing_is_fed_without_harm() {
+        let stand_in = StandIn::new(&["ticks"], r"printf 'refused,row\r\n6,1\r\n'");
+        stand_in.unit.put("reports.csv", &vec![b'0'; 10_000_000]).unwrap();
+        assert_eq!(stand_in.answer(&TICKS).1, REFUSED);
     }
 
     #[test]

@@ -156,7 +156,7 @@ static CAUSES: &[Cause] = &[
         name: "missing",
         applies: |f| *f.text == Text::Missing,
         likely: "the file is not there, or has another name (capital letters count)",
-        cure: "put the file into the unit's folder under this very name",
+        cure: "write it, or correct its name or the name that was typed",
         tidy: false,
     },
     Cause {
@@ -176,7 +176,7 @@ static CAUSES: &[Cause] = &[
     Cause {
         name: "empty",
         applies: |f| f.bytes().is_empty(),
-        likely: "the file has no byte at all: it was made and never filled, or the disk was full",
+        likely: "it was made and never filled, or what writes it failed",
         cure: "write the header and the rows into it",
         tidy: false,
     },
@@ -590,6 +590,21 @@ mod tests {
             ("1,1,1\n", "too few columns"),
             ("1,1,1,0,5\r\n", "too many columns"),
             ("1,1,1,0,\r\n", "too many columns"),
+            ("1,1,1,0 \r\n", "blanks"),
+            ("1 ,1,1,0\r\n", "blanks"),
+            ("1,1,1,0\t\r\n", "blanks"),
+            ("1\u{A0}000,1,1,0\r\n", "blanks"),
+            ("1;1;1;0\r\n", "semicolons"),
+            ("1\t1\t1\t0\r\n", "tabs"),
+            ("\"1\",1,1,0\r\n", "quotes"),
+        ] {
+            assert_eq!(cause_of(&TASKS, format!("D,T,C,A\r\n{rows}").as_bytes()), wanted, "{rows:?}");
+        }
+    }
+
+    #[test]
+    fn numbers_of_tasks() {
+        for (rows, wanted) in [
             ("-1,1,1,0\r\n", "sign"),
             ("1,+1,1,0\r\n", "sign"),
             ("1,1,\u{2212}1,0\r\n", "sign"),
@@ -599,13 +614,6 @@ mod tests {
             ("1,00,1,0\r\n", "leading zero"),
             ("4294967296,1,1,0\r\n", "too large"),
             ("1,42949672950,1,0\r\n", "too large"),
-            ("1 ,1,1,0\r\n", "blanks"),
-            ("1,1,1,0\t\r\n", "blanks"),
-            ("1;1;1;0\r\n", "semicolons"),
-            ("1\t1\t1\t0\r\n", "tabs"),
-            ("\"1\",1,1,0\r\n", "quotes"),
-            ("1,1,1,0 \r\n", "blanks"),
-            ("1\u{A0}000,1,1,0\r\n", "blanks"),
             ("12ms,1,1,0\r\n", "other byte"),
             ("pump,1,1,0\r\n", "other byte"),
         ] {
@@ -624,6 +632,16 @@ mod tests {
             ("2,4", "no last CR LF"),
         ] {
             assert_eq!(cause_of(&PLATFORM, format!("cores,partitions\r\n{rows}").as_bytes()), wanted, "{rows:?}");
+        }
+    }
+
+    #[test]
+    fn every_line_fits_a_page() {
+        for cause in CAUSES {
+            let likely = format!("  likely cause ({}): {}", cause.name, cause.likely);
+            for line in [likely, format!("  cure: {}", cause.cure)] {
+                assert!(line.chars().count() <= 110, "{line}");
+            }
         }
     }
 

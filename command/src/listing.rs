@@ -1,4 +1,5 @@
-//! What the proved programs write, taken apart. A text that is none of their listings is `None`: no answer is read into it.
+//! What the proved programs write, taken apart. A text that is none of their listings is `None`: no answer is read
+//! into it.
 
 #[derive(Debug, Clone, Copy, PartialEq, Eq)]
 pub struct Refused {

@@ -1,5 +1,5 @@
-//! `gorsetumble`: what a fitter types. It decides nothing: the proved programs' bytes go to standard output as they are,
-//! the exit status is what they say, and words for a person go to standard error.
+//! `gorsetumble`: what a fitter types. It decides nothing: the proved programs' bytes go to standard output as they
+//! are, the exit status is what they say, and words for a person go to standard error.
 #![forbid(unsafe_code)]
 
 mod answer;
@@ -21,8 +21,8 @@ use typed::{Question, Request};
 
 fn main() -> ExitCode {
     let status = match typed::request(std::env::args_os().skip(1)) {
-        Ok(Request::Help) => shown(words::USAGE.as_bytes()),
-        Ok(Request::Version) => shown(words::VERSION.as_bytes()),
+        Ok(Request::Help) => printed(words::USAGE.as_bytes()),
+        Ok(Request::Version) => printed(words::VERSION.as_bytes()),
         Ok(Request::Ask { question, folder, quiet }) => answered(&question, &folder, quiet),
         Ok(Request::Tidy { folder, into, quiet }) => tidy::run(&folder, into.as_deref(), quiet),
         Err(wrong) => {
@@ -34,7 +34,7 @@ fn main() -> ExitCode {
 }
 
 /// What was asked for without a program: to standard output, or a trouble.
-fn shown(text: &[u8]) -> u8 {
+fn printed(text: &[u8]) -> u8 {
     match written(text) {
         Ok(()) => answer::GOOD,
         Err(trouble) => failed(&trouble, false),

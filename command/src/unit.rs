@@ -84,8 +84,8 @@ impl Unit {
     }
 
     /// The text that a refusal 15 is about: the first one, in the programs' order, that is refused when the others are
-    /// good. That it is not good is the proved program's answer, never this command's. `None`: its place is another one,
-    /// or no text is refused, so that these are not the texts of the answer.
+    /// good. That it is not good is the proved program's answer, never this command's. `None`: its place is another
+    /// one, or no text is refused, so that these are not the texts of the answer.
     pub fn refused_text(
         &self,
         programs: &Programs,
@@ -123,14 +123,14 @@ impl Unit {
 
 fn refusal(program: Program, bytes: &[u8]) -> Option<Refused> {
     let refused = match program {
-        Program::Admit => listing::margins(bytes).map(refused),
-        Program::Ticks => listing::ticks(bytes).map(refused),
-        Program::Explain => listing::shares(bytes).map(refused),
+        Program::Admit => listing::margins(bytes).map(refusal_of),
+        Program::Ticks => listing::ticks(bytes).map(refusal_of),
+        Program::Explain => listing::shares(bytes).map(refusal_of),
     };
     refused.flatten()
 }
 
-fn refused<Row>(listing: Listing<Row>) -> Option<Refused> {
+fn refusal_of<Row>(listing: Listing<Row>) -> Option<Refused> {
     match listing {
         Listing::Refused(refused) => Some(refused),
         Listing::Rows(_) => None,
@@ -151,4 +151,41 @@ pub fn ordinary(folder: &Path, files: &[&str]) -> Result<(), Trouble> {
         }
     }
     Ok(())
+}
+
+#[cfg(test)]
+mod tests {
+    use super::*;
+    use std::process::Command;
+
+    #[test]
+    fn a_pipe_is_seen_before_a_program_waits_for_it() {
+        let scratch = Scratch::new().unwrap();
+        let files = ["platform.csv", "tasks.csv"];
+        assert!(ordinary(&scratch.path, &files).is_ok(), "what is not there is the program's to say");
+        scratch.put("platform.csv", b"").unwrap();
+        fs::create_dir(scratch.path.join("tasks.csv")).unwrap();
+        assert!(ordinary(&scratch.path, &files).is_ok(), "and so is a folder");
+        fs::remove_dir(scratch.path.join("tasks.csv")).unwrap();
+        assert!(Command::new("mkfifo").arg(scratch.path.join("tasks.csv")).status().unwrap().success());
+        assert!(matches!(ordinary(&scratch.path, &files), Err(Trouble::NotAFile(_))));
+        let file = scratch.path.join("platform.csv");
+        assert!(matches!(ordinary(&file, &files), Err(Trouble::NotAFolder(_))));
+        assert!(matches!(ordinary(&scratch.path.join("nowhere"), &files), Err(Trouble::NoFolder(..))));
+    }
+
+    #[test]
+    fn texts_as_far_as_a_program_looks() {
+        let scratch = Scratch::new().unwrap();
+        let text = |name: &str| Text::of_file(&scratch.path.join(name));
+        scratch.put("longest", &vec![b'x'; LONGEST]).unwrap();
+        scratch.put("longer", &vec![b'x'; LONGEST + 2]).unwrap();
+        assert_eq!(text("longest").given().len(), LONGEST);
+        assert_eq!(text("longer").given().len(), LONGEST + 1);
+        assert_eq!(text("nowhere"), Text::Missing);
+        assert!(matches!(Text::of_file(&scratch.path), Text::Unreadable(_)));
+        let path = scratch.path.clone();
+        drop(scratch);
+        assert!(!path.exists(), "a scratch folder goes with all that is in it");
+    }
 }

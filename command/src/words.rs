@@ -51,10 +51,7 @@ pub fn trouble(trouble: &Trouble) -> String {
 
 /// In the place of words that could not be made; the answer itself stands.
 pub fn no_words(trouble: &Trouble) -> String {
-    match trouble {
-        Trouble::Changed => CHANGED.into(),
-        other => format!("no words for it: {}\n", why(other)),
-    }
+    format!("no words for it: {}\n", why(trouble))
 }
 
 fn why(trouble: &Trouble) -> String {

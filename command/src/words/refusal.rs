@@ -58,9 +58,9 @@ pub fn headline(number: u32) -> String {
     format!("refused, number {number}: {}\n", meaning(number))
 }
 
-/// Of what is neither a text nor a table: its meaning and cure.
+/// Of what is neither a text nor a table.
 pub fn of_number(number: u32) -> String {
-    headline(number) + &format!("  cure: {}\n", cure(number))
+    format!("  cure: {}\n", cure(number))
 }
 
 /// A text by the name that it was given under, and the unit's folder.
@@ -77,8 +77,7 @@ pub fn of_text(source: &Source, form: &'static Form, text: &Text, offset: usize)
         false if offset == 0 => whole,
         false => return None,
     };
-    let mut words = headline(15);
-    words += &format!("  where: {}, {}\n", source.name, whereabouts(&fault));
+    let mut words = format!("  where: {}, {}\n", source.name, whereabouts(&fault));
     if fault.has_place() {
         words += &pointed(&fault);
     }
@@ -143,7 +142,7 @@ fn standing(fault: &Fault) -> String {
     match fault.text {
         Text::Missing => "no file of this name".into(),
         Text::Unreadable(error) => format!("nothing that can be read ({error})"),
-        Text::Bytes(bytes) if bytes.is_empty() => "nothing: the file is empty".into(),
+        Text::Bytes(bytes) if bytes.is_empty() => "nothing: it has no byte".into(),
         Text::Bytes(bytes) if bytes.len() > LONGEST => "more than 60,000 bytes".into(),
         Text::Bytes(_) => fault.found().map_or("the end of the file".into(), named),
     }
@@ -226,7 +225,7 @@ pub fn of_table(unit: &Unit, refused: Refused) -> Option<String> {
             of_row(&TASKS, unit, *start, column, row, &stands, &may)
         }
     };
-    Some(headline(refused.number) + &said + &format!("  cure: {}\n", cure(refused.number)))
+    Some(said + &of_number(refused.number))
 }
 
 const ROW_0: &str = "  the listing says row 0: the fault is the board's, and in no row of tasks.csv\n";
@@ -238,9 +237,8 @@ fn of_count(rows: usize) -> Option<String> {
         _ => counted(rows, "row"),
     };
     let row_0 = "the listing says row 0: how many rows there are is at fault, and no single row";
-    Some(format!(
-        "  where: tasks.csv, the file as a whole\n  there stands: {stands}\n  may stand there: 1 to 32 rows\n  {row_0}\n"
-    ))
+    let place = "  where: tasks.csv, the file as a whole\n";
+    Some(format!("{place}  there stands: {stands}\n  may stand there: 1 to 32 rows\n  {row_0}\n"))
 }
 
 /// The column at fault, what stands there and what may: for refusals 4 to 8 of a row.
@@ -269,4 +267,122 @@ fn of_row(form: &Form, unit: &Unit, start: usize, column: usize, row: usize, sta
     let pointer = format!("      {line}\n      {}^\n", " ".repeat(before));
     let place = format!("  where: {}, line {} (row {row}), column {}\n", form.file, row + 1, column_name(form, column));
     format!("{place}{pointer}  there stands: {stands}\n  may stand there: {may}\n")
+}
+
+#[cfg(test)]
+mod tests {
+    use super::*;
+    use crate::place::tests::{Draw, FORMS};
+    use crate::place::REPORTS;
+
+    fn of(form: &'static Form, bytes: &[u8], offset: usize) -> String {
+        let source = Source { name: form.file, folder: Path::new("unit") };
+        of_text(&source, form, &Text::Bytes(bytes.to_vec()), offset).expect("as the refusal says")
+    }
+
+    #[test]
+    fn a_place_in_a_text() {
+        let wanted = "  where: tasks.csv, line 2 (row 1), column 10; place 18, counted from 0\n\
+            \x20     40,50,2,1<LF>\n\
+            \x20              ^\n\
+            \x20 there stands: LF\n\
+            \x20 may stand there: a further digit, or CR LF after A, the last column\n\
+            \x20 likely cause (LF line ends): the line ends in LF alone, as on Linux and macOS\n\
+            \x20 cure: save with CR LF line ends (in an editor: \"CRLF\", \"DOS\" or \"Windows\" line ends)\n\
+            \x20 or: gorsetumble tidy unit writes a copy in which this is mended\n";
+        assert_eq!(of(&TASKS, b"D,T,C,A\r\n40,50,2,1\n60,60,3,2\n", 18), wanted);
+    }
+
+    #[test]
+    fn what_may_stand() {
+        for (form, text, may) in [
+            (&PLATFORM, "Cores", "the letter c of the header cores,partitions"),
+            (&TASKS, "D;T", "the comma that follows D in the header D,T,C,A"),
+            (&TASKS, "D,T,C,A\n", "CR LF, the end of the header D,T,C,A"),
+            (&TASKS, "D,T,C,A\rx", "LF, which makes the line's end with the CR before it"),
+            (&TASKS, "D,T,C,A\r\n\r\n", "a digit, which begins another row, or the end of the file"),
+            (&PLATFORM, "cores,partitions\r\n", "a digit, which begins the row"),
+            (&PLATFORM, "cores,partitions\r\n1,1\r\n1", "the end of the file, and no more"),
+            (&TASKS, "D,T,C,A\r\n1,,", "a digit, which begins T"),
+            (&TASKS, "D,T,C,A\r\n1;", "a further digit, or a comma after D"),
+            (&TASKS, "D,T,C,A\r\n01", "a comma after D"),
+            (&TASKS, "D,T,C,A\r\n4294967296", "a digit from 0 to 5, or a comma after D"),
+            (&TASKS, "D,T,C,A\r\n1,1,1,4294967295,", "CR LF after A, the last column"),
+        ] {
+            let bytes = text.as_bytes();
+            let offset = (0..=bytes.len()).find(|&at| place::place(form, bytes, at).is_some()).unwrap();
+            assert!(of(form, bytes, offset).contains(&format!("  may stand there: {may}\n")), "{text:?}");
+        }
+    }
+
+    #[test]
+    fn odd_bytes_are_shown_by_name() {
+        let binary = of(&TASKS, b"D,T,C,A\r\n1,\x1B[2J\xEF,1\r\n", 11);
+        assert!(binary.contains("      1,<1B>[2J<EF>,1<CR><LF>\n        ^\n  there stands: byte 0x1B\n"), "{binary}");
+        let long = of(&TASKS, &[b"D,T,C,A\r\n".to_vec(), vec![b'x'; 500]].concat(), 9);
+        assert!(long.contains(&format!("      {} ...\n      ^\n", "x".repeat(SHOWN))));
+        let mut draw = Draw(5);
+        for round in 0..2000 {
+            let form = FORMS[round % 3];
+            let text = draw.damaged(form);
+            let found = (0..=text.len()).find(|&at| place::place(form, &text, at).is_some());
+            let Some(offset) = found.filter(|_| !text.is_empty()) else { continue };
+            let words = of(form, &text, offset);
+            assert!(words.bytes().all(|byte| byte == b'\n' || (0x20..0x7F).contains(&byte)), "{words:?}");
+            let caret = words.lines().position(|line| line.trim() == "^").unwrap();
+            let (line, pointer) = (words.lines().nth(caret - 1).unwrap(), words.lines().nth(caret).unwrap());
+            let pointed = text.get(offset).map_or("<end>".into(), |&byte| readable(byte));
+            assert!(line[pointer.len() - 1..].starts_with(&pointed), "{words}");
+        }
+    }
+
+    #[test]
+    fn a_text_as_a_whole() {
+        let source = Source { name: "log.csv", folder: Path::new("unit") };
+        let missing = of_text(&source, &REPORTS, &Text::Missing, 0).unwrap();
+        assert!(
+            missing.contains("  where: log.csv, the file as a whole; place 0\n  there stands: no file"),
+            "{missing}"
+        );
+        assert_eq!(of_text(&source, &REPORTS, &Text::Missing, 1), None);
+        assert_eq!(of_text(&source, &REPORTS, &Text::Bytes(b"released,finished\r\n".to_vec()), 0), None);
+        let lf = of_text(&source, &REPORTS, &Text::Bytes(b"released,finished\n".to_vec()), 17).unwrap();
+        assert!(
+            lf.ends_with("  or: as reports.csv of the folder it is mended in a copy by gorsetumble tidy unit\n"),
+            "{lf}"
+        );
+    }
+
+    #[test]
+    fn tables() {
+        let of = |platform: &str, tasks: &str, number, row| {
+            let text = |header: &str, rows: &str| Text::Bytes(format!("{header}\r\n{rows}").into_bytes());
+            let (platform, tasks) = (text("cores,partitions", platform), text("D,T,C,A", tasks));
+            of_table(&Unit { platform, tasks, reports: Text::Missing }, Refused { number, row })
+        };
+        let wanted = "  where: tasks.csv, line 3 (row 2), column C\n\
+            \x20     80,100,90,2\n             ^\n  there stands: C is 90 and D is 80\n\
+            \x20 may stand there: C from 1 to D\n\
+            \x20 cure: the job could never end in time: shorten the run or give it longer\n";
+        assert_eq!(of("2,4\r\n", "1,1,1,0\r\n80,100,90,2\r\n", 6, 2).unwrap(), wanted);
+        for (platform, row, number, stands) in [
+            ("17,4\r\n", "1,1,1,0\r\n", 2, "cores is 17"),
+            ("2,65\r\n", "1,1,1,0\r\n", 3, "partitions is 65"),
+            ("2,4\r\n", "1,65536,1,0\r\n", 4, "T is 65536"),
+            ("2,4\r\n", "1,0,1,0\r\n", 4, "T is 0"),
+            ("2,4\r\n", "1,1,0,0\r\n", 5, "C is 0"),
+            ("2,4\r\n", "5,4,1,0\r\n", 7, "D is 5 and T is 4"),
+            ("2,4\r\n", "1,1,1,5\r\n", 8, "A is 5, and platform.csv has 4 partitions"),
+        ] {
+            let row_named = usize::from(number > 3);
+            let words = of(platform, row, number, row_named).unwrap();
+            assert!(words.contains(&format!("  there stands: {stands}\n")), "{words}");
+            assert_eq!(words.contains("the listing says row 0"), row_named == 0);
+            assert_eq!(of("2,4\r\n", "1,1,1,0\r\n", number, row_named), None, "a good table has no fault {number}");
+        }
+        assert!(of("2,4\r\n", "", 1, 0).unwrap().contains("there stands: no row under the header"));
+        assert!(of("2,4\r\n", &"1,1,1,0\r\n".repeat(33), 1, 0).unwrap().contains("there stands: 33 rows"));
+        assert_eq!(of("2,4\r\n", "1,1,1,0\r\n", 1, 0), None);
+        assert_eq!(of("2,4\r\n", "1,1,1,0\r\n", 5, 2), None, "no such row");
+    }
 }

@@ -19,19 +19,29 @@ pub struct Quick {
 }
 
 /// The report's equation 3: what task `i` can take from a job with slack `s`.
-fn interference(s: i128, i: &Row) -> i128 {
+pub fn interference(s: i128, i: &Row) -> i128 {
     (s / i128::from(i.t) + 2) * i128::from(i.c)
+}
+
+/// M, B and S of task k, counted from 1, of a table that is not refused.
+fn measures(table: &Table, k: usize) -> (i128, i128, i128) {
+    let tasks = table.tasks();
+    let widest = tasks[..k].iter().map(|i| i128::from(i.a)).max().unwrap();
+    let s = i128::from(tasks[k - 1].d) - i128::from(tasks[k - 1].c);
+    (i128::from(table.m), i128::from(table.p) - widest + 1, s)
+}
+
+/// The limit of task k, counted from 1.
+pub fn limit(table: &Table, k: usize) -> i128 {
+    let (m, b, s) = measures(table, k);
+    m * b * s
 }
 
 /// The margin of task k, counted from 1, of a table that is not refused.
 pub fn margin(table: &Table, k: usize) -> i128 {
-    let tasks = table.tasks();
-    let m = i128::from(table.m);
-    let s = i128::from(tasks[k - 1].d) - i128::from(tasks[k - 1].c);
-    let widest = tasks[..k].iter().map(|i| i128::from(i.a)).max().unwrap();
-    let b = i128::from(table.p) - widest + 1;
-    let load: i128 = tasks.iter().map(|i| b.max(m * i128::from(i.a)) * interference(s, i)).sum();
-    m * b * s - load
+    let (m, b, s) = measures(table, k);
+    let load: i128 = table.tasks().iter().map(|i| b.max(m * i128::from(i.a)) * interference(s, i)).sum();
+    limit(table, k) - load
 }
 
 pub fn full(table: &Table) -> Full {

@@ -7,7 +7,7 @@ use crate::draw::texts::{pair, platform_rows, spoiled, task_rows, three, whole, 
 use crate::draw::{states, tables};
 use crate::files::Pair;
 use crate::machine::Machine;
-use crate::programs::{admit, set_up, ticks, verdict};
+use crate::programs::{admit, adds_up, explain, set_up, ticks, verdict};
 use crate::records::{Value, BEFORE, MOST, PAST};
 use crate::rng::Rng;
 use crate::table::{Refused, ROWS};
@@ -269,9 +269,20 @@ pub fn write(count_of: u64, seed: u64, pair: Pair) -> io::Result<bool> {
     run.end(&wanted)
 }
 
-/// Writes folders 1, 2, .. with the files that the programs read, their standard input, and what "admit" and "ticks" must write.
-pub fn folders(count_of: u64, seed: u64, folder: &str) -> io::Result<()> {
+/// The name under which what a program wrote is counted: a listing, or the number of the refusal.
+fn outcome(wrote: &[u8]) -> String {
+    let text = String::from_utf8_lossy(wrote);
+    match text.strip_prefix("refused,row\r\n") {
+        Some(row) => format!("explain: refusal {}", row.split(',').next().unwrap_or_default()),
+        None => "explain: a listing".to_string(),
+    }
+}
+
+/// Writes folders 1, 2, .. with the files that the programs read, their standard input, and what "admit", "explain" and
+/// "ticks" must write. False where an outcome of "explain" is met too seldom.
+pub fn folders(count_of: u64, seed: u64, folder: &str) -> io::Result<bool> {
     let mut rng = Rng::new(seed);
+    let mut counts = Counts::default();
     for at in 1..=count_of {
         let given = three(&mut rng);
         let inside = Path::new(folder).join(at.to_string());
@@ -287,10 +298,17 @@ pub fn folders(count_of: u64, seed: u64, folder: &str) -> io::Result<()> {
         }
         fs::write(inside.join("stdin"), &given.ticks)?;
         let (platform, tasks) = (given.platform.as_deref(), given.tasks.as_deref());
-        fs::write(inside.join("admit"), admit(platform, tasks))?;
+        let (admits, explains) = (admit(platform, tasks), explain(platform, tasks));
+        if !adds_up(platform, tasks, &admits, &explains) {
+            return Err(io::Error::other(format!("folder {at}: the shares do not add up")));
+        }
+        counts.add(outcome(&explains));
+        fs::write(inside.join("admit"), admits)?;
+        fs::write(inside.join("explain"), explains)?;
         fs::write(inside.join("ticks"), ticks(platform, tasks, &given.ticks))?;
     }
-    Ok(())
+    counts.print();
+    Ok(true)
 }
 
 #[cfg(test)]

@@ -29,7 +29,7 @@ fn run(words: &[&str]) -> std::io::Result<bool> {
                 _ => Err(std::io::Error::other(format!("no kind of case '{kind}'"))),
             }
         }
-        ["folders", count, seed, folder] => cases_texts::folders(number(count), number(seed), folder).map(|()| true),
+        ["folders", count, seed, folder] => cases_texts::folders(number(count), number(seed), folder),
         ["search", ticks, seed] => {
             let (passed, failed) = search::search(number(ticks), number(seed));
             println!("{passed} passed, {failed} failed");

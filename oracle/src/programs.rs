@@ -1,6 +1,6 @@
-//! The two programs, and the quick verdict that C asks for.
+//! The programs, and the quick verdict that C asks for.
 
-use crate::admission::{full, quick};
+use crate::admission::{full, interference, limit, margin, quick};
 use crate::machine::Machine;
 use crate::table::{Refused, Row, Table};
 use crate::texts::{read, Form, PLATFORM, TASKS, TICKS};
@@ -45,6 +45,62 @@ pub fn admit(platform: Option<&[u8]>, tasks: Option<&[u8]>) -> Vec<u8> {
     }
     let rows = (1..).zip(&answer.margins).map(|(k, margin)| format!("{k},{margin},{}", u32::from(*margin > 0)));
     lines("task,margin,pass", rows)
+}
+
+/// The table of both texts, or the refusal of the first that is not good.
+fn given(platform: Option<&[u8]>, tasks: Option<&[u8]>) -> Result<Table, Refused> {
+    let platform = taken(&PLATFORM, platform)?;
+    let table = table(&platform, &taken(&TASKS, tasks)?);
+    table.refused().map_or(Ok(table), Err)
+}
+
+/// The table in which task i never runs: its slack and its partitions are as before.
+fn without(table: &Table, i: usize) -> Table {
+    let mut idle = table.clone();
+    let row = &mut idle.rows[i - 1];
+    row.d -= row.c;
+    row.c = 0;
+    idle
+}
+
+/// What "explain" writes. A share is what the margin of k would gain if i never ran, and a weight is how often the
+/// interference goes into it.
+pub fn explain(platform: Option<&[u8]>, tasks: Option<&[u8]>) -> Vec<u8> {
+    let table = match given(platform, tasks) {
+        Ok(table) => table,
+        Err(r) => return refused(r),
+    };
+    let mut rows = vec![];
+    for k in 1..=table.tasks().len() {
+        let (task, margin_of_k) = (table.tasks()[k - 1], margin(&table, k));
+        for (i, other) in (1..).zip(table.tasks()) {
+            let taken = interference(i128::from(task.d) - i128::from(task.c), other);
+            let share = margin(&without(&table, i), k) - margin_of_k;
+            assert_eq!(share % taken, 0, "a share is a whole number of times the interference");
+            rows.push(format!("{k},{i},{taken},{},{share}", share / taken));
+        }
+    }
+    lines("task,other,interference,weight,share", rows)
+}
+
+/// The rows of a listing, as numbers.
+fn rows_of(listing: &[u8]) -> Vec<Vec<i128>> {
+    let text = std::str::from_utf8(listing).expect("a listing is ASCII");
+    text.lines().skip(1).map(|row| row.split(',').map(|x| x.parse().expect("a number")).collect()).collect()
+}
+
+/// Whether the two listings, read back, belong together: of each task the shares and the margin add up to its limit.
+/// Two refusals have to be the same.
+pub fn adds_up(platform: Option<&[u8]>, tasks: Option<&[u8]>, admits: &[u8], explains: &[u8]) -> bool {
+    let Ok(table) = given(platform, tasks) else {
+        return admits == explains;
+    };
+    let (margins, pairs) = (rows_of(admits), rows_of(explains));
+    pairs.len() == margins.len() * margins.len()
+        && margins.iter().all(|row| {
+            let shares: i128 = pairs.iter().filter(|pair| pair[0] == row[0]).map(|pair| pair[4]).sum();
+            shares + row[1] == limit(&table, row[0] as usize)
+        })
 }
 
 /// What "ticks" writes.
@@ -130,6 +186,42 @@ mod tests {
             assert_eq!(admit_says(&platform(1, 1), &tasks(&[row])), listing);
             assert_eq!(verdict(&platform(1, 1), &tasks(&[row])), number);
         }
+    }
+
+    const PAIRS: &str = "1,1,4,4,16\r\n1,2,6,4,24\r\n1,3,8,4,32\r\n2,1,6,3,18\r\n2,2,6,4,24\r\n2,3,8,4,32\r\n\
+                         3,1,6,3,18\r\n3,2,9,4,36\r\n3,3,8,4,32\r\n";
+
+    #[test]
+    fn explain_p1_and_what_it_adds_up_to() {
+        let (two, t) = (platform(2, 4), tasks(&P1));
+        let (admits, explains) = (admit(Some(&two), Some(&t)), explain(Some(&two), Some(&t)));
+        assert_eq!(String::from_utf8_lossy(&explains), format!("task,other,interference,weight,share\r\n{PAIRS}"));
+        assert!(adds_up(Some(&two), Some(&t), &admits, &explains));
+        let spoiled = [&explains[..explains.len() - 3], b"3\r\n"].concat();
+        assert!(!adds_up(Some(&two), Some(&t), &admits, &spoiled));
+        let short = &explains[..explains.len() - "3,3,8,4,32\r\n".len()];
+        assert!(!adds_up(Some(&two), Some(&t), &admits, short));
+    }
+
+    #[test]
+    fn explain_refuses_what_admit_refuses() {
+        let (two, t) = (platform(2, 4), tasks(&P1));
+        let texts: [(Option<&[u8]>, Option<&[u8]>); 4] =
+            [(None, Some(&t)), (Some(&two), None), (Some(b"cores"), Some(b"x")), (Some(&two), Some(b""))];
+        for (p, t) in texts {
+            assert_eq!(explain(p, t), admit(p, t));
+            assert!(adds_up(p, t, &admit(p, t), &explain(p, t)));
+        }
+        assert_eq!(explain(Some(&platform(2, 1)), Some(&t)), b"refused,row\r\n8,2\r\n");
+        assert!(!adds_up(None, Some(&t), b"refused,row\r\n15,0\r\n", b"refused,row\r\n15,1\r\n"));
+    }
+
+    /// M x A is larger than B here: with M = 4, P = 4 and A = 2 the weight is 8 and B is 3.
+    #[test]
+    fn explain_weighs_partitions() {
+        let listing = explain(Some(&platform(4, 4)), Some(&tasks(&[[9, 10, 2, 2], [20, 20, 3, 0]])));
+        let rows = "1,1,4,8,32\r\n1,2,6,3,18\r\n2,1,6,8,48\r\n2,2,6,3,18\r\n";
+        assert_eq!(String::from_utf8(listing).unwrap(), format!("task,other,interference,weight,share\r\n{rows}"));
     }
 
     #[test]

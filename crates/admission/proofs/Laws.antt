@@ -1,11 +1,12 @@
 -- Laws of the test's definitions, for what stands on them.
-use Prim.Native.Nat.{ℕ, zero, suc, _+_, _-_, _*_, _<_, _≤_}
+use Prim.Native.Nat.{ℕ, zero, suc, _+_, _-_, _*_, _<_, _≤_, max}
 use mathlib.Core.Path.{_≡_, refl, sym, _∙_, ap}
 use mathlib.Core.Bool.{Bool, true, false, cond, not}
 use mathlib.Core.List.{List}
 use mathlib.Core.Logic.{_≢_}
 use native.Mathlib.Decide.{decLt}
 use native.Mathlib.Nat.{add-zero}
+use native.Mathlib.Numerals.{add-one}
 use native.Mathlib.Omega.{arith}
 use lib.IntN.{ℤ, pos, subℕ}
 use lib.Dec.{ltb, eqb, leb}
@@ -29,6 +30,12 @@ Amax-over t (suc k) i l =
       | yes h ↦ omega (arith, Amax-over t k i h)
       | no h ↦ let e : i ≡ k = omega arith in rw e (omega arith)
     ]
+
+-- of one task more, as a loop has it
+pub Amax-more : (t : Table) (k : ℕ) {most more : ℕ} → most ≡ Amax t k → more ≡ max most (A (τ t (suc k)))
+    → more ≡ Amax t (k + 1)
+unfolding Amax
+Amax-more t k e f = rw add-one (f ∙ rw e)
 
 -- a margin is above 0 exactly where the load is below the limit
 above0-less : (a b : ℕ) → above0 (less a b) ≡ ltb b a

@@ -1,3 +1,4 @@
 pub mod Test
 pub mod Answers
+pub mod Shares
 pub mod Code

@@ -1,6 +1,6 @@
 -- The second test of the report, of a table: the formulas are those of `crates/lives/specs/Report.antt`, and Amax and B are section 4.2.2's.
 -- Tasks k and i are numbered from 1; the report's A, the partitions of the platform, is document 01's P.
-use Prim.Native.Nat.{ℕ, zero, suc, _+_, _-_, max}
+use Prim.Native.Nat.{ℕ, zero, suc, _+_, _-_, _*_, max}
 use mathlib.Core.Bool.{Bool, not}
 use lib.IntN.{ℤ, pos, _-ℤ_}
 use lib.Signed.{ltZ}
@@ -37,6 +37,10 @@ interference t k i = interferenceOf (rows t) k i
 
 abbrev pub weight : Table → ℕ → ℕ → ℕ
 weight t k i = weightOf (M t) (B t k) (A (τ t i))
+
+-- what task i takes of the limit of task k: its term of χ*_k, the sum of theorem 2, times M × B
+abbrev pub share : Table → ℕ → ℕ → ℕ
+share t k i = weight t k i * interference t k i
 
 -- χ*_k of theorem 2, times M × B
 unfoldable pub load : Table → ℕ → ℕ

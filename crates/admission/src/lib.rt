@@ -1,14 +1,17 @@
 // The admission answers: the second test of the report, task by task, with exact margins.
 ghost use mathlib.Core.Path.{_≡_};
 ghost use Prim.Native.Nat.{ℕ, suc, _+_, _-_, _*_, _^_, _<_, _≤_, max};
-ghost use mathlib.Core.Bool.{cond, not};
+ghost use mathlib.Core.Bool.{cond, not, _&&_};
+ghost use lib.Dec.{leb};
 ghost use Rattle.maths.specs.Tasks.{orElse};
-ghost use Rattle.table.specs.Good.{GoodRow};
+ghost use Rattle.table.specs.Good.{Good, GoodRow};
 ghost use Rattle.table.specs.Limits.{mostTasks, mostCores, mostPartitions, longestPeriod};
 ghost use Rattle.table.specs.Tasks.{D, C};
 ghost use Rattle.lives.specs.Report.{equation3, weightOf, limitOf};
-ghost use Rattle.admission.specs.Test.{row, less, above0};
+ghost use Rattle.admission.specs.Test.{row, Amax, less, above0};
 ghost use Rattle.admission.specs.Answers.{fullRefused, quickRefused, fullAnswer, quickAnswer};
+ghost use Rattle.admission.specs.Shares.{noShare, shareIn, shareAnswer};
+ghost use Rattle.admission.specs.Code.Shares.{Bounded, shareOf};
 ghost use Rattle.admission.specs.Code.Judged.{fullJudged, quickJudged};
 use table::Cores;
 use table::Partitions;
@@ -22,6 +25,13 @@ pub struct FullAnswer {
     pub admitted: bool,
     pub first: usize,
     pub margins: [i64; Table::MOST],
+}
+
+// What a task takes of another's limit, and the two numbers that it is the product of.
+pub struct Share {
+    pub interference: u64,
+    pub weight: u64,
+    pub share: u64,
 }
 
 // Of one task: Amax and B, counts of partitions, and its slack.
@@ -63,6 +73,19 @@ fn term(m: Cores, b: Partitions, s: u32, task: Task) -> u64
 {
     let w = weighs(m, b, task);
     (w as u64) * interferes(s, task)
+}
+
+// What a task takes of the limit of one whose B is b and whose slack is s.
+fn shared(m: Cores, b: Partitions, s: u32, task: Task) -> Share
+    requires { ⌜ Bounded (m .0) (b .0) s task ⌝ }
+    ensures { λ r. ⌜ r ≡ shareOf (m .0) (b .0) s task ⌝ }
+{
+    let w = weighs(m, b, task);
+    Share {
+        interference: interferes(s, task),
+        weight: w as u64,
+        share: term(m, b, s, task),
+    }
 }
 
 // The limit of a task whose B is b and whose slack is s.
@@ -246,4 +269,65 @@ pub fn quick_answer(t: Table) -> QuickAnswer
         k += 1;
     }
     answer
+}
+
+// Amax of task k.
+fn amax(t: Table, k: usize) -> Partitions
+    requires { ⌜ k ≤ mostTasks ⌝ }
+    ensures { λ r. ⌜ r .0 ≡ Amax t k ⌝ }
+{
+    let mut most = Partitions(0);
+    let mut i: usize = 0;
+    while i < k {
+        most = largest(t.rows[i], most);
+        i += 1;
+    }
+    most
+}
+
+fn is_task(n: usize, k: usize) -> bool
+    ensures { λ r. ⌜ r ≡ (leb 1 k && leb k n) ⌝ }
+{
+    if k < 1 {
+        return false;
+    }
+    k <= n
+}
+
+fn no_share() -> Share
+    ensures { λ r. ⌜ r ≡ noShare ⌝ }
+{
+    Share {
+        interference: 0,
+        weight: 0,
+        share: 0,
+    }
+}
+
+// What task i + 1 takes of the limit of task k + 1, of a good table.
+fn share_at(t: Table, k: usize, i: usize) -> Share
+    requires { ⌜ Good t × (k < t .n) × (i < t .n) ⌝ }
+    ensures { λ r. ⌜ r ≡ shareIn t (suc k) (suc i) ⌝ }
+{
+    let most = amax(t, k);
+    let x = measured(t.platform.partitions, most, t.rows[k]);
+    shared(t.platform.cores, x.b, x.s, t.rows[i])
+}
+
+// What task i takes of the limit of task k; all 0 where the table is refused or one of them is not a task.
+pub fn share_of(t: Table, k: usize, i: usize) -> Share
+    ensures { λ r. ⌜ r ≡ shareAnswer t k i ⌝ }
+{
+    let refused = t.refused();
+    if refused.number != 0 {
+        return no_share();
+    }
+    let n = t.n;
+    if !is_task(n, k) {
+        return no_share();
+    }
+    if !is_task(n, i) {
+        return no_share();
+    }
+    share_at(t, k - 1, i - 1)
 }

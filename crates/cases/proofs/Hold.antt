@@ -1,6 +1,6 @@
 -- Every case of document 01 holds of the definitions, by computation.
 use mathlib.Core.Path.{_≡_, refl}
-use mathlib.Core.List.{List, map}
+use mathlib.Core.List.{List, map, flatten}
 use Rattle.maths.specs.Padded.{padded}
 use Rattle.maths.specs.Sums.{sum}
 use Rattle.maths.specs.Tasks.{every, lowest, tabulate}
@@ -24,8 +24,9 @@ use Rattle.texts.specs.Given.{taken}
 use Rattle.texts.specs.Admit.{admitText}
 use Rattle.texts.specs.Verdict.{verdict}
 use Rattle.runs.specs.Ticks.{runRows, ticksText}
+use Rattle.shares.specs.Explain.{explainText}
 use Rattle.cases.specs.Rows.{Case, answered, tickedRows, after, cases}
 
 pub cases-hold : map (λ (c : Case). answered (c .asked)) cases ≡ map (λ (c : Case). c .expected) cases
-unfolding padded sum every lowest tabulate digits digitsIn line lines run grow step rowsAt read tableRules rowRules rowsFrom refusal Amax interference load limit less fullAnswer quickAnswer size members setOf setWhere unionOf allApart choice running busy fresh goodJob goodState forTasks startWaiting tickRules firstGiven tickRefusal tick listing marginLines marginsText marginRow taken admitText verdict runRows ticksText tickedRows after cases
+unfolding padded sum every lowest tabulate digits digitsIn line lines run grow step rowsAt read tableRules rowRules rowsFrom refusal Amax interference load limit less fullAnswer quickAnswer size members setOf setWhere unionOf allApart choice running busy fresh goodJob goodState forTasks startWaiting tickRules firstGiven tickRefusal tick listing marginLines marginsText marginRow taken admitText verdict runRows ticksText flatten explainText tickedRows after cases
 cases-hold = refl

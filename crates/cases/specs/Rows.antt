@@ -27,6 +27,7 @@ use Rattle.texts.specs.Given.{given}
 use Rattle.texts.specs.Admit.{admitText}
 use Rattle.texts.specs.Verdict.{verdict}
 use Rattle.runs.specs.Ticks.{tickWith, ticksText}
+use Rattle.shares.specs.Explain.{explainText}
 
 -- the bytes of a text, each of whose lines ends in CR LF
 abbrev pub csv : List String → List ℕ
@@ -45,6 +46,8 @@ brings released finished = record { released = released; finished = finished }
 pub data Asked : Type 0 where
   -- what "admit" writes
   admit : Files → Asked
+  -- what "explain" writes
+  explain : Files → Asked
   -- what "ticks" writes, with these lines on standard input
   ticks : Files → List String → Asked
   -- the number that the board gets
@@ -90,6 +93,7 @@ after m (x ∷ xs) = after (tickWith m x .machine) xs
 
 abbrev pub answered : Asked → Answered
 answered (admit f) = written (admitText true (csv (f .platform)) true (csv (f .tasks)))
+answered (explain f) = written (explainText true (csv (f .platform)) true (csv (f .tasks)))
 answered (ticks f xs) = written (ticksText true (csv (f .platform)) true (csv (f .tasks)) true (csv xs))
 answered (board f) = numbers ((pos (verdict (csv (f .platform)) (csv (f .tasks))) ∷ []) ∷ [])
 answered (answer f) = numbers (answerRow (tableIn f .n) (fullAnswer (tableIn f)) ∷ [])
@@ -143,6 +147,19 @@ unfoldable pub cases : List Case
 cases =
     writes 1 (admit p1) ("task,margin,pass" ∷ "1,232,1" ∷ "2,268,1" ∷ "3,370,1" ∷ [])
     ∷ gives 1 (board p1) (number1 0)
+    ∷ writes 1
+    (explain p1)
+    ("task,other,interference,weight,share"
+    ∷ "1,1,4,4,16"
+    ∷ "1,2,6,4,24"
+    ∷ "1,3,8,4,32"
+    ∷ "2,1,6,3,18"
+    ∷ "2,2,6,4,24"
+    ∷ "2,3,8,4,32"
+    ∷ "3,1,6,3,18"
+    ∷ "3,2,9,4,36"
+    ∷ "3,3,8,4,32"
+    ∷ [])
     ∷ gives 2 (answer (one "6,6,2,1")) (judged1 0 1 (pos 0))
     ∷ gives 2 (board (one "6,6,2,1")) (number1 101)
     ∷ writes 2 (admit (one "6,6,2,1")) ("task,margin,pass" ∷ "1,0,0" ∷ [])
@@ -181,4 +198,8 @@ cases =
     ∷ gives 0 (refusalOf (one "1,65536,1,1")) (refusal2 4 1)
     ∷ gives 0 (refusalOf (record { platform = "cores,partitions" ∷ "1,1" ∷ []; tasks = [] })) (refusal2 15 0)
     ∷ gives 0 (refusalOf (files "1,1" [])) (refusal2 1 0)
+    ∷ writes 0 (explain (files "1,1" [])) ("refused,row" ∷ "1,0" ∷ [])
+    ∷ writes 0
+    (explain (files "4,4" ("9,10,2,2" ∷ "20,20,3,0" ∷ [])))
+    ("task,other,interference,weight,share" ∷ "1,1,4,8,32" ∷ "1,2,6,3,18" ∷ "2,1,6,8,48" ∷ "2,2,6,3,18" ∷ [])
     ∷ []

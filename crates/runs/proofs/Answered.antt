@@ -1,5 +1,5 @@
 -- What a tick answers is below 10 ^ 20, whatever the machine: sets of at most 32 tasks, and numbers of refusals.
-use Prim.Native.Nat.{ℕ, _^_, _<_, _≤_}
+use Prim.Native.Nat.{ℕ, _<_, _≤_}
 use mathlib.Core.Path.{_≡_, refl, ap, _∙_}
 use mathlib.Core.Bool.{Bool, true, false, cond}
 use mathlib.Core.List.{List, [], _∷_}
@@ -25,10 +25,8 @@ use Rattle.machine.specs.Tick.{tickRules, firstGiven, tickRefusal, readied, acc
 use Rattle.machine.proofs.Jobs.{finished-table, readied-table}
 use Rattle.machine.proofs.Queue.{step-table}
 use Rattle.readers.specs.declared.Tick.{Tick}
+use Rattle.writers.proofs.Listings.{big}
 use Rattle.runs.specs.Ticks.{tickWith}
-
-abbrev pub big : ℕ
-big = 10 ^ 20
 
 few-tasks : (t : Table) → refusal t .number ≡ 0 → t .n ≤ mostTasks
 unfolding refusal

@@ -10,21 +10,16 @@ use lib.Dec.{leb}
 use lib.ListN.{length, getD, length-append}
 use Rattle.maths.proofs.Tests.{same-truth}
 use Rattle.forms.specs.Forms.{Within, EachRow, none, also, columns, largest, ticksForm, line, lines}
-use Rattle.forms.proofs.Digits.{width-most}
 use Rattle.forms.proofs.Theorem.{written}
 use Rattle.machine.specs.declared.Machine.{Machine}
 use Rattle.readers.specs.Inputs.{tickOf}
 use Rattle.writers.specs.declared.Room.{Room}
 use Rattle.writers.specs.Written.{roomFor}
+use Rattle.writers.proofs.Listings.{big, row-most}
 use Rattle.runs.specs.Ticks.{tickWith, counted, runRows, runText, listingMost}
 use Rattle.runs.specs.Code.Runs.{ticksIn, GoodTicks, runStart}
 use Rattle.runs.proofs.Runs.{header, toCome, run-split, counted-most}
-use Rattle.runs.proofs.Answered.{big, tick-small}
-
-row-most : (a b c d e : ℕ) → a < big → b < big → c < big → d < big → e < big → length (line (a ∷ b ∷ c ∷ d ∷ e ∷ [])) ≤ 106
-unfolding line
-row-most a b c d e ha hb hc hd he =
-    simp length-append (omega (arith, width-most 19 a ha, width-most 19 b hb, width-most 19 c hc, width-most 19 d hd, width-most 19 e he))
+use Rattle.runs.proofs.Answered.{tick-small}
 
 second-most : {row : List ℕ} → Within (columns ticksForm) row → getD row 1 0 ≤ largest
 second-most (also a (also b none)) = b

@@ -8,4 +8,5 @@ pub mod Signed
 pub mod Margins
 pub mod Ticks
 pub mod Added
+pub mod Listings
 pub mod Determined

@@ -112,10 +112,13 @@ impl Asked<'_> {
         Ok(match reports {
             Reports::OfFolder => {
                 unit::ordinary(self.folder, &[REPORTS.file])?;
-                Named { name: REPORTS.file.into(), text: Text::of_file(&self.folder.join(REPORTS.file)) }
+                let text = Text::of_file(&self.folder.join(REPORTS.file));
+                Named { name: REPORTS.file.into(), in_folder: true, text }
             }
-            Reports::File(path) => Named { name: words::shown(path), text: Text::of_file(path) },
-            Reports::StandardInput => Named { name: "standard input".into(), text: Text::of_standard_input() },
+            Reports::File(path) => Named { name: words::shown(path), in_folder: false, text: Text::of_file(path) },
+            Reports::StandardInput => {
+                Named { name: "standard input".into(), in_folder: false, text: Text::of_standard_input() }
+            }
         })
     }
 
@@ -158,8 +161,10 @@ impl Asked<'_> {
     fn text_words(&self, program: Program, refused: Refused, reports: &Named) -> Result<String, Trouble> {
         let unit = Unit::of_folder(self.folder, reports.text.clone());
         let form = unit.refused_text(self.programs, program, refused)?.ok_or(Trouble::Changed)?;
-        let name = if form.file == REPORTS.file { &reports.name } else { form.file };
-        let source = Source { name, folder: self.folder };
+        let source = match form.file == REPORTS.file {
+            true => Source { name: &reports.name, in_folder: reports.in_folder, folder: self.folder },
+            false => Source { name: form.file, in_folder: true, folder: self.folder },
+        };
         refusal::of_text(&source, form, unit.text(form), refused.row).ok_or(Trouble::Changed)
     }
 
@@ -181,10 +186,11 @@ impl Asked<'_> {
 /// A ticks text, and what it goes by.
 struct Named {
     name: String,
+    in_folder: bool,
     text: Text,
 }
 
-const NO_REPORTS: Named = Named { name: String::new(), text: Text::Missing };
+const NO_REPORTS: Named = Named { name: String::new(), in_folder: false, text: Text::Missing };
 
 /// The headline, which rests on the listing alone, and the details below it or why there are none. Words about texts
 /// that are no longer those of the listing are not said at all.

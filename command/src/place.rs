@@ -302,7 +302,9 @@ pub mod tests {
                 };
                 form.header.to_string() + "\r\n" + &rows.iter().map(line).collect::<String>()
             });
-            assert!(written.is_none_or(|written| written.as_bytes() == text));
+            if let Some(written) = written {
+                assert_eq!(written.as_bytes(), text);
+            }
         }
     }
 }

@@ -6,7 +6,6 @@ use std::os::unix::fs::DirBuilderExt;
 use std::os::unix::process::ExitStatusExt;
 use std::path::{Path, PathBuf};
 use std::process::{Child, Command, ExitStatus, Stdio};
-use std::thread;
 use std::time::{SystemTime, UNIX_EPOCH};
 
 #[derive(Debug, Clone, Copy, PartialEq, Eq)]
@@ -76,9 +75,9 @@ impl Programs {
             .stderr(Stdio::piped())
             .spawn()
             .map_err(|error| Trouble::NotStarted(program, error))?;
-        let feeding = feed(&mut child, input.to_vec());
-        let output = child.wait_with_output().map_err(|error| Trouble::NotStarted(program, error))?;
-        let _ = feeding.map(thread::JoinHandle::join);
+        let output = fed(&mut child, input)
+            .and_then(|()| child.wait_with_output())
+            .map_err(|error| Trouble::NotStarted(program, error))?;
         if output.status.success() {
             return Ok(output.stdout);
         }
@@ -87,14 +86,17 @@ impl Programs {
     }
 }
 
-/// Hands over the input beside the reading of the output, so that neither waits for the other. A program that does not
-/// read all of it is no failure.
-fn feed(child: &mut Child, input: Vec<u8>) -> Option<thread::JoinHandle<()>> {
-    let mut stdin = child.stdin.take()?;
-    let feeding = thread::Builder::new().spawn(move || {
-        let _ = stdin.write_all(&input);
-    });
-    feeding.ok()
+/// Hands over the whole input: the programs write nothing before they have read it all. One that does not read it is
+/// no failure; where a part of it cannot be handed over, the program is ended before it answers for that part alone.
+fn fed(child: &mut Child, input: &[u8]) -> io::Result<()> {
+    let Some(mut stdin) = child.stdin.take() else { return Ok(()) };
+    match stdin.write_all(input) {
+        Err(error) if error.kind() != io::ErrorKind::BrokenPipe => {
+            let _ = child.kill().and_then(|()| child.wait());
+            Err(error)
+        }
+        _ => Ok(()),
+    }
 }
 
 fn ended(status: ExitStatus) -> String {

@@ -10,7 +10,7 @@ use std::path::Path;
 /// Of a line so many bytes are shown from the place on.
 const SHOWN: usize = 40;
 
-/// What a number of a table's refusal means.
+/// What a refusal's number means.
 pub fn meaning(number: u32) -> &'static str {
     match number {
         1 => "there is no task, or there are more than 32",
@@ -63,9 +63,10 @@ pub fn of_number(number: u32) -> String {
     format!("  cure: {}\n", cure(number))
 }
 
-/// A text by the name that it was given under, and the unit's folder.
+/// A text by the name that it was given under, whether it is one of the unit's folder, and this folder.
 pub struct Source<'a> {
     pub name: &'a str,
+    pub in_folder: bool,
     pub folder: &'a Path,
 }
 
@@ -85,7 +86,7 @@ pub fn of_text(source: &Source, form: &'static Form, text: &Text, offset: usize)
     words += &format!("  may stand there: {}\n", may_stand(&fault));
     let cause = cause(&fault);
     words += &format!("  likely cause ({}): {}\n  cure: {}\n", cause.name, cause.likely, cause.cure);
-    if cause.tidy {
+    if cause.is_mended_by_tidy(&fault) {
         words += &tidied(source, form);
     }
     Some(words)
@@ -94,7 +95,7 @@ pub fn of_text(source: &Source, form: &'static Form, text: &Text, offset: usize)
 /// `tidy` looks at the files of the folder alone.
 fn tidied(source: &Source, form: &Form) -> String {
     let folder = shown(source.folder);
-    match source.name == form.file {
+    match source.in_folder {
         true => format!("  or: gorsetumble tidy {folder} writes a copy in which this is mended\n"),
         false => format!("  or: as {} of the folder it is mended in a copy by gorsetumble tidy {folder}\n", form.file),
     }
@@ -207,22 +208,22 @@ fn column_name(form: &Form, column: usize) -> &'static str {
 pub fn of_table(unit: &Unit, refused: Refused) -> Option<String> {
     let platform = place::rows(&PLATFORM, unit.platform.given())?;
     let tasks = place::rows(&TASKS, unit.tasks.given())?;
-    let (platform_start, board) = platform.first()?;
+    let (start, board) = platform.first()?;
     let (cores, partitions) = (board[0], board[1]);
+    let of_board = |column, stands, may: &str| {
+        let cell = Cell { form: &PLATFORM, start: *start, row: 1, column };
+        cell.words(unit, &(stands, may.into())) + ROW_0
+    };
     let said = match (refused.number, refused.row) {
         (1, 0) => of_count(tasks.len())?,
-        (2, 0) if !(1..=16).contains(&cores) => {
-            let stands = format!("cores is {cores}");
-            of_row(&PLATFORM, unit, *platform_start, 0, 1, &stands, "cores from 1 to 16") + ROW_0
-        }
+        (2, 0) if !(1..=16).contains(&cores) => of_board(0, format!("cores is {cores}"), "cores from 1 to 16"),
         (3, 0) if !(1..=64).contains(&partitions) => {
-            let stands = format!("partitions is {partitions}");
-            of_row(&PLATFORM, unit, *platform_start, 1, 1, &stands, "partitions from 1 to 64") + ROW_0
+            of_board(1, format!("partitions is {partitions}"), "partitions from 1 to 64")
         }
         (number, row) => {
             let (start, task) = tasks.get(row.checked_sub(1)?)?;
-            let (column, stands, may) = of_task(number, task, partitions)?;
-            of_row(&TASKS, unit, *start, column, row, &stands, &may)
+            let (column, said) = of_task(number, task, partitions)?;
+            Cell { form: &TASKS, start: *start, row, column }.words(unit, &said)
         }
     };
     Some(said + &of_number(refused.number))
@@ -241,10 +242,13 @@ fn of_count(rows: usize) -> Option<String> {
     Some(format!("{place}  there stands: {stands}\n  may stand there: 1 to 32 rows\n  {row_0}\n"))
 }
 
-/// The column at fault, what stands there and what may: for refusals 4 to 8 of a row.
-fn of_task(number: u32, task: &[u32], partitions: u32) -> Option<(usize, String, String)> {
+/// What stands in a cell, and what may.
+type StandsAndMay = (String, String);
+
+/// The column at fault, and the words for it: for refusals 4 to 8 of a row.
+fn of_task(number: u32, task: &[u32], partitions: u32) -> Option<(usize, StandsAndMay)> {
     let [d, t, c, a] = *task else { return None };
-    let fits = |holds: bool, column, stands: String, may: &str| holds.then(|| (column, stands, may.into()));
+    let fits = |holds: bool, column, stands: String, may: &str| holds.then(|| (column, (stands, may.into())));
     match number {
         4 => fits(!(1..=65535).contains(&t), 1, format!("T is {t}"), "T from 1 to 65,535"),
         5 => fits(c == 0, 2, format!("C is {c}"), "C from 1 to D"),
@@ -258,15 +262,27 @@ fn of_task(number: u32, task: &[u32], partitions: u32) -> Option<(usize, String,
     }
 }
 
-/// A row as it stands, a caret under the column, and the words for it.
-fn of_row(form: &Form, unit: &Unit, start: usize, column: usize, row: usize, stands: &str, may: &str) -> String {
-    let text = &unit.text(form).given()[start..];
-    let line = text.split(|&byte| byte == b'\r').next().unwrap_or_default();
-    let line: String = line.iter().copied().map(char::from).collect();
-    let before: usize = line.split(',').take(column).map(|cell| cell.len() + 1).sum();
-    let pointer = format!("      {line}\n      {}^\n", " ".repeat(before));
-    let place = format!("  where: {}, line {} (row {row}), column {}\n", form.file, row + 1, column_name(form, column));
-    format!("{place}{pointer}  there stands: {stands}\n  may stand there: {may}\n")
+/// A cell of a good text.
+struct Cell {
+    form: &'static Form,
+    /// The offset of its line.
+    start: usize,
+    row: usize,
+    column: usize,
+}
+
+impl Cell {
+    /// The row as it stands, a caret under the cell, and what is said of it.
+    fn words(&self, unit: &Unit, (stands, may): &StandsAndMay) -> String {
+        let text = &unit.text(self.form).given()[self.start..];
+        let line = text.split(|&byte| byte == b'\r').next().unwrap_or_default();
+        let line: String = line.iter().copied().map(char::from).collect();
+        let before: usize = line.split(',').take(self.column).map(|cell| cell.len() + 1).sum();
+        let (row, column) = (self.row, column_name(self.form, self.column));
+        let place = format!("  where: {}, line {} (row {row}), column {column}\n", self.form.file, row + 1);
+        let pointer = format!("      {line}\n      {}^\n", " ".repeat(before));
+        format!("{place}{pointer}  there stands: {stands}\n  may stand there: {may}\n")
+    }
 }
 
 #[cfg(test)]
@@ -276,7 +292,7 @@ mod tests {
     use crate::place::REPORTS;
 
     fn of(form: &'static Form, bytes: &[u8], offset: usize) -> String {
-        let source = Source { name: form.file, folder: Path::new("unit") };
+        let source = Source { name: form.file, in_folder: true, folder: Path::new("unit") };
         of_text(&source, form, &Text::Bytes(bytes.to_vec()), offset).expect("as the refusal says")
     }
 
@@ -338,7 +354,7 @@ mod tests {
 
     #[test]
     fn a_text_as_a_whole() {
-        let source = Source { name: "log.csv", folder: Path::new("unit") };
+        let source = Source { name: "log.csv", in_folder: false, folder: Path::new("unit") };
         let missing = of_text(&source, &REPORTS, &Text::Missing, 0).unwrap();
         assert!(
             missing.contains("  where: log.csv, the file as a whole; place 0\n  there stands: no file"),

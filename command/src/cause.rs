@@ -16,8 +16,15 @@ pub struct Cause {
     applies: fn(&Fault) -> bool,
     pub likely: &'static str,
     pub cure: &'static str,
-    /// Whether `gorsetumble tidy` mends it.
-    pub tidy: bool,
+    /// Whether `gorsetumble tidy` mends it in a text.
+    tidy: bool,
+}
+
+impl Cause {
+    /// `tidy` leaves a file with a NUL in it as it is, but for UTF-16, which is full of them.
+    pub fn is_mended_by_tidy(&self, fault: &Fault) -> bool {
+        self.tidy && (utf16_marked(fault) || !fault.bytes().contains(&0))
+    }
 }
 
 impl Fault<'_> {
@@ -353,7 +360,7 @@ static CAUSES: &[Cause] = &[
         applies: |f| f.place.state == State::AfterCr && f.is(b"\r"),
         likely: "the line ends in CR CR LF: its end was turned into CR LF twice",
         cure: "save with CR LF line ends (in an editor: \"CRLF\", \"DOS\" or \"Windows\" line ends)",
-        tidy: false,
+        tidy: true,
     },
     Cause {
         name: "CR line ends",

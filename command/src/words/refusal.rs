@@ -86,7 +86,7 @@ pub fn of_text(source: &Source, form: &'static Form, text: &Text, offset: usize)
     words += &format!("  may stand there: {}\n", may_stand(&fault));
     let cause = cause(&fault);
     words += &format!("  likely cause ({}): {}\n  cure: {}\n", cause.name, cause.likely, cause.cure);
-    if cause.tidy {
+    if cause.is_mended_by_tidy(&fault) {
         words += &tidied(source, form);
     }
     Some(words)

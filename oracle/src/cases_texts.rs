@@ -288,7 +288,8 @@ fn outcome(wrote: &[u8]) -> String {
 }
 
 /// Writes folders 1, 2, .. with the files that the programs read, their standard input, and what "admit", "explain" and
-/// "ticks" must write. False where an outcome of "explain" is met too seldom.
+/// "ticks" must write. False where an outcome of "explain" is met less than once in
+/// 200 folders.
 pub fn folders(count_of: u64, seed: u64, folder: &str) -> io::Result<bool> {
     let mut rng = Rng::new(seed);
     let mut counts = Counts::default();
@@ -316,8 +317,15 @@ pub fn folders(count_of: u64, seed: u64, folder: &str) -> io::Result<bool> {
         fs::write(inside.join("explain"), explains)?;
         fs::write(inside.join("ticks"), ticks(platform, tasks, &given.ticks))?;
     }
+    println!("{count_of} folders:");
     counts.print();
-    Ok(true)
+    let refusals = [1, 2, 3, 4, 5, 6, 7, 8, 15].map(|number| format!("explain: refusal {number}"));
+    let wanted: Vec<&str> = ["explain: a listing"].into_iter().chain(refusals.iter().map(String::as_str)).collect();
+    let rare = counts.rarer(&wanted, count_of / 200);
+    if !rare.is_empty() {
+        println!("met too seldom: {}", rare.join(", "));
+    }
+    Ok(rare.is_empty())
 }
 
 #[cfg(test)]

@@ -3,7 +3,7 @@
 //! ```text
 //! oracle cases KIND COUNT SEED CASES EXPECTED   write cases of the kind (admission, machine, readers, writers,
 //!                                               verdicts, texts) and the answers expected of them
-//! oracle folders COUNT SEED FOLDER              write COUNT folders with the files of the two programs and what
+//! oracle folders COUNT SEED FOLDER              write COUNT folders with the files of the programs and what
 //!                                               they must write
 //! oracle search TICKS SEED                      look for a counterexample to demand 3, and see how tight the test is
 //! oracle judge CASES EXPECTED GOT               hold the answers that were got to those expected

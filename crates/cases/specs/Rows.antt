@@ -1,6 +1,6 @@
 -- Cases P1 to P10 of document 01 and its cases at the limits: what is given, as the lines of the texts, what is asked,
--- and the answer that document 01 gives. `cases` is proved to give `expected` in proofs/Hold.antt, from the bytes of
--- the texts on.
+-- and the answer that document 01 gives; of "explain", which document 01 does not have, the answer by hand from its
+-- formulas. `cases` is proved to give `expected` in proofs/Hold.antt, from the bytes of the texts on.
 use Prim.Native.Nat.{ℕ, _*_, _/_}
 use Prim.Native.String.{String}
 use mathlib.Core.Bool.{true, cond}
@@ -108,8 +108,7 @@ answered (ticked f xs) = numbers (tickedRows (fresh (tableIn f)) xs)
 answered (holds f xs k) = numbers ((pos (held (after (fresh (tableIn f)) xs) k) ∷ []) ∷ [])
 answered (refusalOf f) = numbers ((pos (refusalIn f .number) ∷ pos (refusalIn f .row) ∷ []) ∷ [])
 
--- a case: its number in document 01 (0 for its last line, which has none), what is asked, and the answer that document
--- 01 gives
+-- a case: its number in document 01 (0 for one that has none, as in its last line), what is asked, and the answer
 pub record Case : Type 0 where
   pub number : ℕ
   pub asked : Asked

@@ -1,4 +1,4 @@
--- A row of a listing has at most 106 bytes: five numbers of at most 20 digits, four commas and CR LF.
+-- A listing of ticks has at most 106 bytes for each, and the tests by which the code knows that it has room.
 use Prim.Native.Nat.{ℕ, _+_, _-_, _*_, _/_, _<_, _≤_}
 use mathlib.Core.Path.{_≡_, refl, ap, _∙_}
 use mathlib.Core.Bool.{Bool, true, false, cond}
@@ -9,7 +9,7 @@ use borrow.Author.Tests.{leb-true, le-leb}
 use lib.Dec.{leb}
 use lib.ListN.{length, getD, length-append}
 use Rattle.maths.proofs.Tests.{same-truth}
-use Rattle.forms.specs.Forms.{Within, EachRow, none, also, columns, largest, ticksForm, line, lines}
+use Rattle.forms.specs.Forms.{Within, EachRow, none, also, columns, largest, ticksForm, lines}
 use Rattle.forms.proofs.Theorem.{written}
 use Rattle.machine.specs.declared.Machine.{Machine}
 use Rattle.readers.specs.Inputs.{tickOf}

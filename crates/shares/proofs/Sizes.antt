@@ -25,7 +25,7 @@ use Rattle.writers.specs.Outputs.{refusedText}
 use Rattle.writers.proofs.Listings.{row-most}
 use Rattle.texts.specs.Given.{given, taken}
 use Rattle.texts.proofs.Sizes.{bad-most, table-most}
-use Rattle.shares.specs.Explain.{pairRow, pairRows, pairsText, explained, explainText, explainMost, ExplainFits}
+use Rattle.shares.specs.Explain.{pairRow, pairsText, explained, explainText, explainMost, ExplainFits}
 use Rattle.shares.proofs.Grids.{grid, grid-none, grid-more}
 use Rattle.shares.proofs.Pairs.{header, linesFrom, pairs-split}
 

@@ -1,4 +1,3 @@
-use native.Mathlib.Omega.{arith}
 use borrow.Author.Tests.{le-leb, lt-leb}
 use Rattle.admission.proofs.is_task.Statement.{statement}
 use Rattle.admission.proofs.is_task.Tie as tie

@@ -1,6 +1,6 @@
 use borrow.Author.Needs.{needs}
 use native.Mathlib.Nat.{le-trans}
-use mathlib.Core.Path.{_≡_, sym}
+use mathlib.Core.Path.{sym}
 use lib.Seq.{length-take-le}
 use Rattle.writers.proofs.Wholes.{wrote-inside, wrote-all}
 use Rattle.shares.proofs.Sizes.{explain-fits}

@@ -1,5 +1,4 @@
 use borrow.Author.Needs.{needs}
-use Prim.Native.Nat.{_<_}
 use mathlib.Core.Path.{_≡_, refl}
 use native.Mathlib.Omega.{arith}
 use lib.ListN.{length}

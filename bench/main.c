@@ -1,5 +1,6 @@
-// Times the archive's calls beside the plain C version, both called from here and in turn. Given any word, it runs a few rounds of each
-// instead, between system calls that mark them, for a count of their instructions; given the number of a case too, those of that case only.
+// Times the archive's calls beside the plain C version, both called from here and in turn. Given any word, it runs a
+// few rounds of each instead, between system calls that mark them, for a count of their instructions; given the number
+// of a case too, those of that case only.
 #include "rounds.h"
 #include "texts.c"
 
@@ -70,7 +71,8 @@ static int timed(const input *x) {
     return 0;
 }
 
-// A system call that fails: what is executed between two of them is counted. Its own place is at most a few instructions of each count.
+// A system call that fails: what is executed between two of them is counted. Its own place is at most a few
+// instructions of each count.
 __attribute__((noinline)) void mark(void) { write(-1, "", 0); }
 
 static int counted(const input *x) {
@@ -179,7 +181,8 @@ static int tick_case(const char *how, u32 n, u32 cores, u32 a, u32 period, u32 r
         }
         if (wanted == 12 && at % 2) report[0] = ~(u32)0 >> (32 - n);
         machine_tick(&m, report[0], report[1], &got);
-        if (got.refused.number && got.refused.number != wanted) return printf("tick, %u tasks, %s: refused by %u\n", n, how, got.refused.number);
+        if (got.refused.number && got.refused.number != wanted)
+            return printf("tick, %u tasks, %s: refused by %u\n", n, how, got.refused.number);
         refused += got.refused.number != 0;
     }
     if (!wanted != !refused) return printf("tick, %u tasks, %s: %u refused\n", n, how, refused);
@@ -216,7 +219,9 @@ typedef u64 running(const u8 *platform, u64 p, const u8 *tasks, u64 k, const u8 
 
 static u64 runs(running f, const input *x, u64 n, u8 *out) {
     u64 h = 0;
-    while (n--) h += f((const u8 *)platform_text, sizeof platform_text - 1, full_tasks, full_length, x->text, x->length, out, LISTING);
+    while (n--)
+        h += f((const u8 *)platform_text, sizeof platform_text - 1, full_tasks, full_length, x->text, x->length, out,
+               LISTING);
     return h;
 }
 
@@ -240,7 +245,8 @@ static int text_cases(void) {
     text_case("set-up from texts", "as long as may be", set_up_proved, set_up_plain, long_tasks, long_length);
     text_case("quick verdict", "a full table", verdict_proved, verdict_plain, full_tasks, full_length);
     text_case("whole `ticks`", "as long as may be", run_proved, run_plain, long_ticks, ticks_length);
-    const input *x = text_case("whole `ticks`", "a text of 5,000 bytes", run_proved, run_plain, some_ticks, some_length);
+    const input *x =
+        text_case("whole `ticks`", "a text of 5,000 bytes", run_proved, run_plain, some_ticks, some_length);
     u64 length = run_proved(x, 1);
     if (length != run_plain(x, 1)) return printf("whole ticks: the lengths differ\n");
     for (u64 i = 0; i < length; i++)

@@ -19,7 +19,8 @@ static u64 below(u32 p) { return p < 64 ? ((u64)1 << p) - 1 : ~(u64)0; }
 static int job_good(const job *j, const task *r, u64 partitions) {
     if (j->age > r->t) return 0;
     if (j->stage == RUNNING)
-        return j->ran < r->c && j->ran <= j->age && (u32)__builtin_popcountl(j->held) == r->a && !(j->held & ~partitions);
+        return j->ran < r->c && j->ran <= j->age && (u32)__builtin_popcountl(j->held) == r->a &&
+               !(j->held & ~partitions);
     return !j->held && !j->ran && (j->stage == WAITING || j->age >= 1);
 }
 

@@ -1,5 +1,5 @@
-// The readers, and what the program `ticks` writes, in plain C: one pass over a text, and where it is not of its form the offset of the first
-// byte that no good text has there.
+// The readers, and what the program `ticks` writes, in plain C: one pass over a text, and where it is not of its form
+// the offset of the first byte that no good text has there.
 #include "plain.h"
 
 // The place up to which the bytes at `at` are those of the word.
@@ -35,7 +35,8 @@ static int byte(const u8 *s, u64 length, u64 *at, u8 wanted) {
 static int row(const u8 *s, u64 length, u64 *at, u32 *numbers, u32 columns) {
     for (u32 i = 0; i < columns; i++) {
         if (!number(s, length, at, &numbers[i])) return 0;
-        if (i + 1 < columns ? !byte(s, length, at, ',') : !(byte(s, length, at, '\r') && byte(s, length, at, '\n'))) return 0;
+        if (i + 1 < columns ? !byte(s, length, at, ',') : !(byte(s, length, at, '\r') && byte(s, length, at, '\n')))
+            return 0;
     }
     return 1;
 }
@@ -165,8 +166,8 @@ static u64 write_refusal(refusal r, u8 *out, u64 room) {
     return length;
 }
 
-// What the program `ticks` writes of three texts: its length, or 0 where it has no room, and then nothing is changed. A buffer with room
-// for the longest lines is not measured first.
+// What the program `ticks` writes of three texts: its length, or 0 where it has no room, and then nothing is changed. A
+// buffer with room for the longest lines is not measured first.
 u64 plain_run(const u8 *platform, u64 p, const u8 *tasks, u64 k, const u8 *ticks, u64 n, u8 *out, u64 room) {
     table t, given = {0};
     u64 count;

@@ -12,9 +12,11 @@ static u32 word(const u32 *words, u64 count, u64 i) { return i < count ? words[i
 
 table table_of(const u32 *words, u64 count) {
     u32 n = word(words, count, 0);
-    table t = {.n = n < MOST_TASKS ? n : MOST_TASKS, .cores = word(words, count, 1), .partitions = word(words, count, 2)};
+    table t = {
+        .n = n < MOST_TASKS ? n : MOST_TASKS, .cores = word(words, count, 1), .partitions = word(words, count, 2)};
     for (u64 i = 0; i < t.n; i++)
-        t.rows[i] = (task){word(words, count, 4 * i + 3), word(words, count, 4 * i + 4), word(words, count, 4 * i + 5), word(words, count, 4 * i + 6)};
+        t.rows[i] = (task){word(words, count, 4 * i + 3), word(words, count, 4 * i + 4), word(words, count, 4 * i + 5),
+                           word(words, count, 4 * i + 6)};
     return t;
 }
 
@@ -26,7 +28,8 @@ u64 proved_full(const u32 *words, u64 count, u32 p, u32 q, u64 n) {
     table t = table_of(words, count);
     u64 h = 0;
     for (u64 i = 0; i < n; i++) {
-        gorsetumble_full_answer a = gorsetumble_full((gorsetumble_platform){t.cores, i % 2 == 0 ? p : q}, lent(&t), t.n);
+        gorsetumble_full_answer a =
+            gorsetumble_full((gorsetumble_platform){t.cores, i % 2 == 0 ? p : q}, lent(&t), t.n);
         h = fold(fold(h, a.refused.number), a.first);
         h = fold(fold(h, without_sign(a.margins[0])), without_sign(a.margins[31]));
     }
@@ -50,7 +53,8 @@ u64 proved_quick(const u32 *words, u64 count, u32 p, u32 q, u64 n) {
     table t = table_of(words, count);
     u64 h = 0;
     for (u64 i = 0; i < n; i++) {
-        gorsetumble_quick_answer a = gorsetumble_quick((gorsetumble_platform){t.cores, i % 2 == 0 ? p : q}, lent(&t), t.n);
+        gorsetumble_quick_answer a =
+            gorsetumble_quick((gorsetumble_platform){t.cores, i % 2 == 0 ? p : q}, lent(&t), t.n);
         h = fold(fold(h, a.refused.number), a.first);
     }
     return h;
@@ -108,7 +112,9 @@ u64 plain_set_up(const u8 *platform, u64 p, const u8 *tasks, u64 k) {
     return r.number ? h : fold(fold(fold(h, m.table.n), m.table.rows[31].a), m.jobs[31].age);
 }
 
-u64 proved_verdict(const u8 *platform, u64 p, const u8 *tasks, u64 k) { return gorsetumble_quick_verdict(platform, p, tasks, k); }
+u64 proved_verdict(const u8 *platform, u64 p, const u8 *tasks, u64 k) {
+    return gorsetumble_quick_verdict(platform, p, tasks, k);
+}
 
 u64 plain_verdict(const u8 *platform, u64 p, const u8 *tasks, u64 k) { return verdict(platform, p, tasks, k); }
 

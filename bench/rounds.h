@@ -6,13 +6,15 @@
 // A table from words: n, M, P, then D, T, C, A of each task.
 table table_of(const u32 *words, u64 count);
 
-// Rounds of the full and of the quick answer, on p and q partitions in turn. The proved ones get the rows as any C program lends them.
+// Rounds of the full and of the quick answer, on p and q partitions in turn. The proved ones get the rows as any C
+// program lends them.
 u64 proved_full(const u32 *words, u64 count, u32 p, u32 q, u64 n);
 u64 plain_full(const u32 *words, u64 count, u32 p, u32 q, u64 n);
 u64 proved_quick(const u32 *words, u64 count, u32 p, u32 q, u64 n);
 u64 plain_quick(const u32 *words, u64 count, u32 p, u32 q, u64 n);
 
-// Ticks of a fresh machine, one for each report: their words stand two by two, released and finished. Both tick a machine in its place.
+// Ticks of a fresh machine, one for each report: their words stand two by two, released and finished. Both tick a
+// machine in its place.
 u64 proved_ticks(const u32 *words, u64 count, const u32 *reports, u64 report_words);
 u64 plain_ticks(const u32 *words, u64 count, const u32 *reports, u64 report_words);
 

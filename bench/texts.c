@@ -1,4 +1,5 @@
-// Cases of set-up and verdict from texts, and of what the program `ticks` writes: texts of a full table, and of as many rows as a program takes.
+// Cases of set-up and verdict from texts, and of what the program `ticks` writes: texts of a full table, and of as many
+// rows as a program takes.
 #include "rounds.h"
 
 enum { ROOM = LONGEST_TEXT, LISTING = 1300000 };
@@ -36,7 +37,8 @@ static u64 tasks_text(u8 *text, u32 most) {
     return at;
 }
 
-// Every task is released each 128 ticks, task i first at tick 4 * i, and finished as soon as the plain machine says that it has run its C.
+// Every task is released each 128 ticks, task i first at tick 4 * i, and finished as soon as the plain machine says
+// that it has run its C.
 static u64 ticks_text(u8 *text, const u8 *tasks, u64 length, u64 most) {
     u64 at = add_bytes(text, 0, "released,finished\r\n");
     table t;

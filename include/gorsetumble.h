@@ -1,14 +1,16 @@
-/* The proved admission check, machine, readers and writers, as C and C++ call them: link libgorsetumble.a, the archive that
- * `rt staticlib gorsetumble` writes, which is for x86-64 Linux. It exports what is declared here and nothing else.
+/* The proved admission check, machine, readers and writers, as C and C++ call them: link libgorsetumble.a, the archive
+ * that `rt staticlib gorsetumble` writes, which is for x86-64 Linux. It exports what is declared here and nothing else.
  *
- * What a caller owes is what C asks of any call: a pointer with a count or a length behind it points to so many records or bytes, `m` points to a
- * machine, and nothing that is lent for writing overlaps anything else that is lent. Counts and lengths may be any, 0 and 33 and a million, and no
- * byte needs to follow the last of a text. Where one is 0 its pointer ought to be one that is not null; docs/C.md says what is known of null.
- * Nothing else is asked: a call takes any numbers in any record and any bytes in any text. No call allocates, keeps a pointer or has state of
- * its own, so calls on different records may run at the same time.
+ * What a caller owes is what C asks of any call: a pointer with a count or a length behind it points to so many records
+ * or bytes, `m` points to a machine, and nothing that is lent for writing overlaps anything else that is lent. Counts
+ * and lengths may be any, 0 and 33 and a million, and no byte needs to follow the last of a text. Where one is 0 its
+ * pointer ought to be one that is not null; docs/C.md says what is known of null. Nothing else is asked: a call takes
+ * any numbers in any record and any bytes in any text. No call allocates, keeps a pointer or has state of its own, so
+ * calls on different records may run at the same time.
  *
- * A refusal has its number (see GORSETUMBLE_REFUSED_..) and the lowest row or task concerned, counted from 1, or 0 where none is; for 15 it has
- * the offset. A call that is refused leaves machines and buffers as they were lent, to the byte. */
+ * A refusal has its number (see GORSETUMBLE_REFUSED_..) and the lowest row or task concerned, counted from 1, or 0
+ * where none is; for 15 it has the offset. A call that is refused leaves machines and buffers as they were lent, to the
+ * byte. */
 #ifndef GORSETUMBLE_H
 #define GORSETUMBLE_H
 
@@ -30,25 +32,26 @@ enum {
     GORSETUMBLE_LONGEST_PERIOD = 65535
 };
 
-/* The numbers of refusals. A table is tried for 1 to 3 and then row by row for 4 to 8; a tick for 14, 9, 10, 11, 12 and 13, each over all tasks. */
+/* The numbers of refusals; docs/FITTERS.md has the cause and the cure of each. A table is tried for 1 to 3 and then row
+ * by row for 4 to 8; a tick for 14, 9, 10, 11, 12 and 13, each over all tasks. */
 enum {
     GORSETUMBLE_NOT_REFUSED = 0,
-    GORSETUMBLE_REFUSED_COUNT = 1,       /* no task, or more than 32 */
-    GORSETUMBLE_REFUSED_CORES = 2,       /* not 1 to 16 cores */
-    GORSETUMBLE_REFUSED_PARTITIONS = 3,  /* not 1 to 64 partitions */
-    GORSETUMBLE_REFUSED_PERIOD = 4,      /* a period of 0 or above 65,535 */
-    GORSETUMBLE_REFUSED_NO_RUN = 5,      /* a longest run of 0 */
-    GORSETUMBLE_REFUSED_RUN = 6,         /* a longest run above the deadline */
-    GORSETUMBLE_REFUSED_DEADLINE = 7,    /* a deadline above the period */
-    GORSETUMBLE_REFUSED_NEED = 8,        /* a task needs more partitions than there are */
-    GORSETUMBLE_REFUSED_TASK = 9,        /* a task above n is named */
+    GORSETUMBLE_REFUSED_COUNT = 1,        /* no task, or more than 32 */
+    GORSETUMBLE_REFUSED_CORES = 2,        /* not 1 to 16 cores */
+    GORSETUMBLE_REFUSED_PARTITIONS = 3,   /* not 1 to 64 partitions */
+    GORSETUMBLE_REFUSED_PERIOD = 4,       /* a period of 0 or above 65,535 */
+    GORSETUMBLE_REFUSED_NO_RUN = 5,       /* a longest run of 0 */
+    GORSETUMBLE_REFUSED_RUN = 6,          /* a longest run above the deadline */
+    GORSETUMBLE_REFUSED_DEADLINE = 7,     /* a deadline above the period */
+    GORSETUMBLE_REFUSED_NEED = 8,         /* a task needs more partitions than there are */
+    GORSETUMBLE_REFUSED_TASK = 9,         /* a task above n is named */
     GORSETUMBLE_REFUSED_NOT_RUNNING = 10, /* finished names a task that is not running */
-    GORSETUMBLE_REFUSED_OVERRUN = 11,    /* a job has run its C ticks and is not in finished */
-    GORSETUMBLE_REFUSED_EARLY = 12,      /* released names a task whose last release is less than T ticks ago */
-    GORSETUMBLE_REFUSED_UNFINISHED = 13, /* released names a task whose job is unfinished */
-    GORSETUMBLE_REFUSED_STATE = 14,      /* the machine lent is no state that a machine can be in */
-    GORSETUMBLE_REFUSED_TEXT = 15,       /* a text is not of its form: the offset is how far a good text could begin like it */
-    GORSETUMBLE_REFUSED_ROOM = 16        /* a buffer is too short for its text */
+    GORSETUMBLE_REFUSED_OVERRUN = 11,     /* a job has run its C ticks and is not in finished */
+    GORSETUMBLE_REFUSED_EARLY = 12,       /* released names a task whose last release is less than T ticks ago */
+    GORSETUMBLE_REFUSED_UNFINISHED = 13,  /* released names a task whose job is unfinished */
+    GORSETUMBLE_REFUSED_STATE = 14,       /* the machine lent is no state that a machine can be in */
+    GORSETUMBLE_REFUSED_TEXT = 15,        /* a text is not of its form: up to the offset a good one could begin so */
+    GORSETUMBLE_REFUSED_ROOM = 16         /* a buffer is too short for its text */
 };
 
 typedef struct {
@@ -75,7 +78,8 @@ typedef struct {
     size_t row;
 } gorsetumble_refusal;
 
-/* `first` is the first task that does not pass, or 0; margins past the last task are 0. Where the table is refused, all but the refusal is 0. */
+/* `first` is the first task that does not pass, or 0; margins past the last task are 0. Where the table is refused, all
+ * but the refusal is 0. */
 typedef struct {
     gorsetumble_refusal refused;
     bool admitted;
@@ -176,7 +180,8 @@ GORSETUMBLE_AT(gorsetumble_texts_written, tasks, 24);
 #undef GORSETUMBLE_SIZE
 #undef GORSETUMBLE_ASSERT
 
-/* The quick verdict on the bytes of platform.csv and tasks.csv, just as the files have them, for the board's start-up code. It answers
+/* The quick verdict on the bytes of platform.csv and tasks.csv, just as the files have them, for the board's start-up
+ * code. It answers
  *
  *   0            admitted: the unit may start
  *   101 to 132   not admitted: 100 plus the number of the first task that does not pass
@@ -186,29 +191,39 @@ GORSETUMBLE_AT(gorsetumble_texts_written, tasks, 24);
  * and no other number. Start the scheduler on 0 and on nothing else, and set it up from the same texts. */
 enum { GORSETUMBLE_ADMITTED = 0, GORSETUMBLE_FIRST_TASK_FAILS = 100 };
 
-uint32_t gorsetumble_quick_verdict(const uint8_t *platform, size_t platform_length, const uint8_t *tasks, size_t tasks_length);
+uint32_t gorsetumble_quick_verdict(const uint8_t *platform, size_t platform_length, const uint8_t *tasks,
+                                   size_t tasks_length);
 
-/* Verdict, first task that does not pass, and the margin of each task; the quick answer is the same without the margins. */
+/* Verdict, first task that does not pass, and the margin of each task; the quick answer is the same without the
+ * margins. */
 gorsetumble_full_answer gorsetumble_full(gorsetumble_platform platform, const gorsetumble_task *rows, size_t count);
 gorsetumble_quick_answer gorsetumble_quick(gorsetumble_platform platform, const gorsetumble_task *rows, size_t count);
 
-/* A fresh machine in the place of the old one, of which nothing stays: of these rows, or of the table that two texts give. Where it is refused the
- * old one stays. Set-up does not ask for the verdict. */
-gorsetumble_refusal gorsetumble_set_up(gorsetumble_machine *m, gorsetumble_platform platform, const gorsetumble_task *rows, size_t count);
-gorsetumble_text_refusal gorsetumble_set_up_texts(gorsetumble_machine *m, const uint8_t *platform, size_t platform_length, const uint8_t *tasks, size_t tasks_length);
+/* A fresh machine in the place of the old one, of which nothing stays: of these rows, or of the table that two texts
+ * give. Where it is refused the old one stays. Set-up does not ask for the verdict. */
+gorsetumble_refusal gorsetumble_set_up(gorsetumble_machine *m, gorsetumble_platform platform,
+                                       const gorsetumble_task *rows, size_t count);
+gorsetumble_text_refusal gorsetumble_set_up_texts(gorsetumble_machine *m, const uint8_t *platform,
+                                                  size_t platform_length, const uint8_t *tasks, size_t tasks_length);
 
-/* One tick: which tasks were released and which jobs finished since the last; the answer says which are late and which start now. */
+/* One tick: which tasks were released and which jobs finished since the last; the answer says which are late and which
+ * start now. */
 gorsetumble_answer gorsetumble_tick(gorsetumble_machine *m, uint32_t released, uint32_t finished);
 
-/* What the programs `admit` and `ticks` write of their texts. As they do, these take no text over 60,000 bytes: it is written as 15 and 0. */
-gorsetumble_written gorsetumble_admit(const uint8_t *platform, size_t platform_length, const uint8_t *tasks, size_t tasks_length, uint8_t *out, size_t room);
-gorsetumble_written gorsetumble_ticks(const uint8_t *platform, size_t platform_length, const uint8_t *tasks, size_t tasks_length, const uint8_t *ticks, size_t ticks_length, uint8_t *out, size_t room);
+/* What the programs `admit` and `ticks` write of their texts. As they do, these take no text over 60,000 bytes: it is
+ * written as 15 and 0. */
+gorsetumble_written gorsetumble_admit(const uint8_t *platform, size_t platform_length, const uint8_t *tasks,
+                                      size_t tasks_length, uint8_t *out, size_t room);
+gorsetumble_written gorsetumble_ticks(const uint8_t *platform, size_t platform_length, const uint8_t *tasks,
+                                      size_t tasks_length, const uint8_t *ticks, size_t ticks_length, uint8_t *out,
+                                      size_t room);
 
-/* The text of a platform, the text of a table's rows, and both or neither. A table is written as it is, good or not; of one that counts more
- * than 32 rows the 32 that are there. */
+/* The text of a platform, the text of a table's rows, and both or neither. A table is written as it is, good or not; of
+ * one that counts more than 32 rows the 32 that are there. */
 gorsetumble_written gorsetumble_write_platform(gorsetumble_platform platform, uint8_t *out, size_t room);
 gorsetumble_written gorsetumble_write_tasks(gorsetumble_table table, uint8_t *out, size_t room);
-gorsetumble_texts_written gorsetumble_write_texts(gorsetumble_table table, uint8_t *platform, size_t platform_room, uint8_t *tasks, size_t tasks_room);
+gorsetumble_texts_written gorsetumble_write_texts(gorsetumble_table table, uint8_t *platform, size_t platform_room,
+                                                  uint8_t *tasks, size_t tasks_room);
 
 #ifdef __cplusplus
 }

@@ -373,6 +373,31 @@ mod tests {
     }
 
     #[test]
+    fn another_place_in_an_earlier_text_is_a_change() {
+        let behaviour = r"if [ -e here ]; then printf 'refused,row\r\n15,0\r\n'
+            elif grep -q WRONG platform.csv; then printf 'refused,row\r\n15,3\r\n'
+            elif grep -q WRONG tasks.csv; then printf 'refused,row\r\n15,0\r\n'
+            fi";
+        let stand_in = StandIn::new(&["admit"], behaviour);
+        stand_in.unit.put("platform.csv", b"corWRONG").unwrap();
+        stand_in.unit.put("tasks.csv", b"WRONG").unwrap();
+        assert_eq!(stand_in.answer(&Question::Admit).2, words::CHANGED);
+    }
+
+    #[test]
+    fn what_ticks_come_to() {
+        for (rows, status) in [
+            ("", GOOD),
+            ("0,0,0,0,3\r\n1,0,1,0,0\r\n", GOOD),
+            ("0,0,0,0,3\r\n1,0,0,2,0\r\n", NOT_ADMITTED),
+            ("0,0,0,0,3\r\n1,11,0,0,0\r\n", NOT_ADMITTED),
+        ] {
+            let behaviour = format!("printf 'tick,refused,finished,late,started\r\n{rows}'");
+            assert_eq!(StandIn::new(&["ticks"], &behaviour).answer(&TICKS).1, status, "{rows}");
+        }
+    }
+
+    #[test]
     fn ticks_in_words() {
         let behaviour = r"printf 'tick,refused,finished,late,started\r\n0,0,0,0,3\r\n1,12,0,0,0\r\n1,0,1,10,4\r\n'";
         let stand_in = StandIn::new(&["ticks"], behaviour);

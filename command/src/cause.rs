@@ -503,6 +503,8 @@ fn starts_empty(fault: &Fault) -> bool {
 mod tests {
     use super::*;
     use crate::place::place;
+    use crate::place::tests::{Draw, FORMS};
+    use crate::tidy::tidied;
 
     /// The cause of a text whose place is found by trying: the first offset that is one.
     fn cause_of(form: &'static Form, bytes: &[u8]) -> &'static str {
@@ -640,6 +642,54 @@ mod tests {
         ] {
             assert_eq!(cause_of(&PLATFORM, format!("cores,partitions\r\n{rows}").as_bytes()), wanted, "{rows:?}");
         }
+    }
+
+    fn first_place(form: &'static Form, bytes: &[u8]) -> Option<Place> {
+        (0..=bytes.len()).find_map(|at| place(form, bytes, at)).filter(|_| !bytes.is_empty())
+    }
+
+    #[test]
+    fn what_tidy_is_said_to_mend_it_mends() {
+        let mut draw = Draw(6);
+        let mut said = std::collections::HashSet::new();
+        for round in 0..20_000 {
+            let form = FORMS[round % 3];
+            let bytes = draw.damaged(form);
+            let Some(place) = first_place(form, &bytes) else { continue };
+            let fault = Fault { form, text: &Text::Bytes(bytes.clone()), place };
+            let cause_before = cause(&fault);
+            if !cause_before.is_mended_by_tidy(&fault) {
+                continue;
+            }
+            said.insert(cause_before.name);
+            let copy = Text::Bytes(tidied(&bytes).0);
+            let Some(place) = first_place(form, copy.given()) else { continue };
+            let cause_after = cause(&Fault { form, text: &copy, place });
+            let mended = cause_after.name != cause_before.name || place.line > fault.place.line;
+            assert!(mended, "{}: {:?}", cause_before.name, String::from_utf8_lossy(&bytes));
+        }
+        let drawn =
+            ["LF line ends", "CR line ends", "two CR", "semicolons", "tabs", "blank last line", "no last CR LF"];
+        assert!(drawn.iter().all(|name| said.contains(name)), "{said:?}");
+    }
+
+    #[test]
+    fn marks_that_tidy_mends() {
+        let good = b"D,T,C,A\r\n1,1,1,0\r\n";
+        let utf16 = |pair: fn(u16) -> [u8; 2]| {
+            let text = String::from_utf8_lossy(good);
+            std::iter::once(0xFEFF).chain(text.encode_utf16()).flat_map(pair).collect::<Vec<u8>>()
+        };
+        let marked = [b"\xEF\xBB\xBF", &good[..]].concat();
+        for bytes in [marked, utf16(u16::to_le_bytes), utf16(u16::to_be_bytes)] {
+            let text = Text::Bytes(bytes);
+            let fault = Fault { form: &TASKS, text: &text, place: Place::FIRST };
+            assert!(cause(&fault).is_mended_by_tidy(&fault));
+            assert_eq!(tidied(text.given()).0, good);
+        }
+        let with_nul = Text::Bytes(b"D;T;C;A\0".to_vec());
+        let fault = Fault { form: &TASKS, text: &with_nul, place: Place { offset: 1, column: 2, ..Place::FIRST } };
+        assert!(cause(&fault).tidy && !cause(&fault).is_mended_by_tidy(&fault));
     }
 
     #[test]

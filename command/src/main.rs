@@ -1,5 +1,9 @@
 //! `gorsetumble`: what a fitter types. It decides nothing: the proved programs' bytes go to standard output as they
 //! are, the exit status is what they say, and words for a person go to standard error.
+//!
+//! `typed` reads the words that were typed; `answer` asks the programs through `run` and takes their listings apart by
+//! `listing`; `unit` puts questions about copies of the unit's texts; `place` finds a proved place in a text, `cause`
+//! says how such a byte usually gets there, and `words` has what is said. `tidy` asks no program.
 #![forbid(unsafe_code)]
 
 mod answer;

@@ -1,5 +1,5 @@
-//! Cases of the machine, on one state that is kept from case to case: S sets it up from a table, T brings it a report, X puts a given
-//! state in its place and brings that a report.
+//! Cases of the machine, on one state that is kept from case to case: S sets it up from a table, T brings it a report,
+//! X puts a given state in its place and brings that a report.
 
 use crate::cases_admission::{refused_values, table_values};
 use crate::counts::Counts;
@@ -77,7 +77,8 @@ impl Run {
         Ok(())
     }
 
-    /// A tick on a given state: one that a run has reached, an arbitrary good one, either with one or two things spoiled, or a wild one.
+    /// A tick on a given state: one that a run has reached, an arbitrary good one, either with one or two things
+    /// spoiled, or a wild one.
     fn given(&mut self, reached: &Machine) -> io::Result<()> {
         let mut state = if self.rng.once_in(3) { reached.clone() } else { states::arbitrary(&mut self.rng) };
         let habit = reports::habit(&mut self.rng);

@@ -1,5 +1,5 @@
-//! Cases of texts: what is read, by set-up from two texts (U) and the program "ticks" (N); writers (V, and W for two texts at once); the quick verdict
-//! (C); and the programs' whole work (M, N).
+//! Cases of texts: what is read, by set-up from two texts (U) and the program "ticks" (N); writers (V, and W for two
+//! texts at once); the quick verdict (C); and the programs' whole work (M, N).
 
 use crate::cases_admission::{refused_values, table_values};
 use crate::counts::Counts;
@@ -7,7 +7,7 @@ use crate::draw::texts::{pair, platform_rows, spoiled, task_rows, three, whole, 
 use crate::draw::{states, tables};
 use crate::files::Pair;
 use crate::machine::Machine;
-use crate::programs::{admit, adds_up, explain, set_up, ticks, verdict};
+use crate::programs::{adds_up, admit, explain, set_up, ticks, verdict};
 use crate::records::{Value, BEFORE, MOST, PAST};
 use crate::rng::Rng;
 use crate::table::{Refused, ROWS};
@@ -41,8 +41,9 @@ fn written(text: &[u8], room: usize, past: usize) -> (Option<Refused>, Vec<Value
     (refused, answer)
 }
 
-/// Room for a program's text: mostly more than it needs, often just enough, and else one byte too few, little or none. The proved code does
-/// not measure a listing of ticks where there are 36 bytes and 106 for each row, so room is drawn on both sides of that too.
+/// Room for a program's text: mostly more than it needs, often just enough, and else one byte too few, little or none.
+/// The proved code does not measure a listing of ticks where there are 36 bytes and 106 for each row, so room is drawn
+/// on both sides of that too.
 fn room(rng: &mut Rng, text: &[u8]) -> usize {
     let rows = text.iter().filter(|&&b| b == b'\n').count() - 1;
     let plenty = 36 + 106 * rows;
@@ -85,7 +86,8 @@ impl Run {
         self.pair.write(b'U', &[bytes(platform), bytes(tasks)], &answer)
     }
 
-    /// A platform text and a tasks text, each spoiled and beside a good other: set up, they show every number; and a spoiled ticks text, run.
+    /// A platform text and a tasks text, each spoiled and beside a good other: set up, they show every number; and a
+    /// spoiled ticks text, run.
     fn readers(&mut self) -> io::Result<()> {
         let [platform, tasks, reports] = whole(&mut self.rng);
         let spoil = |run: &mut Run, form: &Form, text: Vec<u8>| {
@@ -101,9 +103,14 @@ impl Run {
         self.set_up(beside, &text)?;
         let text = spoil(self, &TICKS, reports);
         let says = ticks(Some(&platform), Some(&tasks), &text);
-        let case =
-            [numbers([1]), vec![bytes(&platform)], numbers([1]), vec![bytes(&tasks), bytes(&text)], numbers([says.len() as u64])]
-                .concat();
+        let case = [
+            numbers([1]),
+            vec![bytes(&platform)],
+            numbers([1]),
+            vec![bytes(&tasks), bytes(&text)],
+            numbers([says.len() as u64]),
+        ]
+        .concat();
         self.pair.write(b'N', &case, &written(&says, says.len(), PAST).1)
     }
 
@@ -151,15 +158,16 @@ impl Run {
         Ok(answer)
     }
 
-    /// Platform and tasks texts of a table, good or not, into buffers that are long enough or just too short: each by itself (V) and
-    /// both at once (W).
+    /// Platform and tasks texts of a table, good or not, into buffers that are long enough or just too short: each by
+    /// itself (V) and both at once (W).
     fn writers(&mut self, kind: u8) -> io::Result<()> {
         let rng = &mut self.rng;
         let mut table = if rng.once_in(2) { states::busy_table(rng) } else { tables::wild(rng) };
         table.n = table.n.min(ROWS as u64);
         let texts = [text_of(&PLATFORM, &platform_rows(&table)), text_of(&TASKS, &task_rows(&table))];
         let rooms = texts.each_ref().map(|text| {
-            let length = rng.pick(&[text.len(), text.len(), text.len() + 1, text.len() + 30, text.len() - 1, 0, text.len() / 2]);
+            let length =
+                rng.pick(&[text.len(), text.len(), text.len() + 1, text.len() + 30, text.len() - 1, 0, text.len() / 2]);
             if rng.once_in(2) {
                 text.len()
             } else {
@@ -186,7 +194,8 @@ impl Run {
         self.pair.write(kind, &case, &answer)
     }
 
-    /// Prints the counts and closes the files; the answer is false if an outcome was met less than once in two thousand cases.
+    /// Prints the counts and closes the files; the answer is false if an outcome was met less than once in two thousand
+    /// cases.
     fn end(self, wanted: &[String]) -> io::Result<bool> {
         println!("{} cases of texts:", self.pair.written);
         self.counts.print();
@@ -279,7 +288,8 @@ fn outcome(wrote: &[u8]) -> String {
 }
 
 /// Writes folders 1, 2, .. with the files that the programs read, their standard input, and what "admit", "explain" and
-/// "ticks" must write. False where an outcome of "explain" is met too seldom.
+/// "ticks" must write. False where an outcome of "explain" is met less than once in
+/// 200 folders.
 pub fn folders(count_of: u64, seed: u64, folder: &str) -> io::Result<bool> {
     let mut rng = Rng::new(seed);
     let mut counts = Counts::default();
@@ -307,8 +317,15 @@ pub fn folders(count_of: u64, seed: u64, folder: &str) -> io::Result<bool> {
         fs::write(inside.join("explain"), explains)?;
         fs::write(inside.join("ticks"), ticks(platform, tasks, &given.ticks))?;
     }
+    println!("{count_of} folders:");
     counts.print();
-    Ok(true)
+    let refusals = [1, 2, 3, 4, 5, 6, 7, 8, 15].map(|number| format!("explain: refusal {number}"));
+    let wanted: Vec<&str> = ["explain: a listing"].into_iter().chain(refusals.iter().map(String::as_str)).collect();
+    let rare = counts.rarer(&wanted, count_of / 200);
+    if !rare.is_empty() {
+        println!("met too seldom: {}", rare.join(", "));
+    }
+    Ok(rare.is_empty())
 }
 
 #[cfg(test)]

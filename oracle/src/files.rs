@@ -33,8 +33,8 @@ impl Pair {
     }
 }
 
-/// Holds the answers that were got to those expected, record by record. The first that differs is shown whole. Answers that are
-/// missing count as failed, and bytes after the last one as one more failure.
+/// Holds the answers that were got to those expected, record by record. The first that differs is shown whole. Answers
+/// that are missing count as failed, and bytes after the last one as one more failure.
 pub fn judge(cases: &str, expected: &str, got: &str) -> io::Result<(u64, u64)> {
     let open = |path: &str| Ok::<_, io::Error>(BufReader::new(File::open(path)?));
     let (mut cases, mut expected, mut got) = (open(cases)?, open(expected)?, open(got)?);

@@ -1,4 +1,5 @@
-//! The second program for the rules of document 01: written from that document alone, apart from the proved one, and plainly.
+//! The second program for the rules of document 01: written from that document alone, apart from the proved one, and
+//! plainly.
 
 pub mod admission;
 pub mod cases_admission;

@@ -234,10 +234,9 @@ impl Machine {
             return Err(refused);
         }
         let mut next = self.older().without(&members(finished));
-        let late = self
-            .each()
-            .zip(&next.jobs)
-            .filter(|((_, task, before), after)| !after.is(Stage::Idle) && before.age == task.d - 1 && after.age == task.d);
+        let late = self.each().zip(&next.jobs).filter(|((_, task, before), after)| {
+            !after.is(Stage::Idle) && before.age == task.d - 1 && after.age == task.d
+        });
         let late = set_of(late.map(|((k, _, _), _)| k));
         for k in members(released) {
             let job = &mut next.jobs[k as usize - 1];
@@ -268,8 +267,8 @@ impl Machine {
         Some(k)
     }
 
-    /// A number for the whole record, by which two records are compared: of n, M, P, the 32 rows and the 32 jobs, those of 64 bits
-    /// taken as two of 32, the low one first.
+    /// A number for the whole record, by which two records are compared: of n, M, P, the 32 rows and the 32 jobs, those
+    /// of 64 bits taken as two of 32, the low one first.
     pub fn digest(&self) -> u32 {
         let halves = |x: u64| [(x & 0xffff_ffff) as u32, (x >> 32) as u32];
         let mut numbers = halves(self.table.n).to_vec();
@@ -315,8 +314,16 @@ mod tests {
         let t = Table::new(3, 4, &[(6, 6, 2, 1), (8, 8, 3, 2), (9, 9, 2, 2), (12, 12, 2, 1)]);
         let reports = [(15, 0), (0, 0), (0, 1), (0, 2), (0, 4), (1, 8), (0, 8), (1, 0)];
         let (_, lines) = run(&t, &reports);
-        let expected: [Line; 8] =
-            [(0, 0, 0, 3), (0, 0, 0, 0), (0, 1, 0, 4), (0, 2, 0, 8), (0, 4, 0, 0), (12, 0, 0, 0), (0, 8, 0, 0), (0, 0, 0, 1)];
+        let expected: [Line; 8] = [
+            (0, 0, 0, 3),
+            (0, 0, 0, 0),
+            (0, 1, 0, 4),
+            (0, 2, 0, 8),
+            (0, 4, 0, 0),
+            (12, 0, 0, 0),
+            (0, 8, 0, 0),
+            (0, 0, 0, 1),
+        ];
         assert_eq!(lines, expected);
         let (machine, _) = run(&t, &reports[..3]);
         assert_eq!(machine.jobs[2].held, [0, 3]);

@@ -1,9 +1,10 @@
 //! The commands of the second program.
 //!
 //! ```text
-//! oracle cases KIND COUNT SEED CASES EXPECTED   write cases of the kind (admission, machine, readers, writers, verdicts,
-//!                                               texts) and the answers expected of them
-//! oracle folders COUNT SEED FOLDER              write COUNT folders with the files of the two programs and what they must write
+//! oracle cases KIND COUNT SEED CASES EXPECTED   write cases of the kind (admission, machine, readers, writers,
+//!                                               verdicts, texts) and the answers expected of them
+//! oracle folders COUNT SEED FOLDER              write COUNT folders with the files of the programs and what
+//!                                               they must write
 //! oracle search TICKS SEED                      look for a counterexample to demand 3, and see how tight the test is
 //! oracle judge CASES EXPECTED GOT               hold the answers that were got to those expected
 //! ```
@@ -41,7 +42,8 @@ fn run(words: &[&str]) -> std::io::Result<bool> {
             Ok(failed == 0)
         }
         _ => Err(std::io::Error::other(
-            "usage: oracle cases KIND COUNT SEED CASES EXPECTED | folders COUNT SEED FOLDER | search TICKS SEED | judge CASES EXPECTED GOT",
+            "usage: oracle cases KIND COUNT SEED CASES EXPECTED | folders COUNT SEED FOLDER | search TICKS SEED | \
+             judge CASES EXPECTED GOT",
         )),
     }
 }

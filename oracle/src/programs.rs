@@ -130,7 +130,8 @@ pub fn ticks(platform: Option<&[u8]>, tasks: Option<&[u8]>, reports: &[u8]) -> V
     lines("tick,refused,finished,late,started", rows)
 }
 
-/// Set-up from two texts: the fresh machine, or the refusal and the text that it is in, 1 the platform, 2 the tasks, 0 neither.
+/// Set-up from two texts: the fresh machine, or the refusal and the text that it is in, 1 the platform, 2 the tasks, 0
+/// neither.
 pub fn set_up(platform: &[u8], tasks: &[u8]) -> Result<Machine, (Refused, u32)> {
     let platform = read(&PLATFORM, platform).map_err(|r| (r, 1))?;
     let tasks = read(&TASKS, tasks).map_err(|r| (r, 2))?;

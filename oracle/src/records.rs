@@ -1,7 +1,9 @@
-//! The form of the files of cases and of answers. A case is a byte that names its kind and then the kind's fields; an answer is its
-//! kind's fields alone. Numbers are little-endian. A text is its length, 4 bytes, and its bytes. There is nothing between records.
+//! The form of the files of cases and of answers. A case is a byte that names its kind and then the kind's fields; an
+//! answer is its kind's fields alone. Numbers are little-endian. A text is its length, 4 bytes, and its bytes. There is
+//! nothing between records.
 //!
-//! The fields of a kind are stated once, below; what is written is checked against them and what is read is read by them.
+//! The fields of a kind are stated once, below; what is written is checked against them and what is read is read by
+//! them.
 //!
 //! ```text
 //! A  both admission answers           C  the quick verdict on two texts
@@ -12,7 +14,8 @@
 //!                                     W  both are written, or neither
 //! ```
 //!
-//! A buffer is `BEFORE` in every byte until it is written to. Of M and N the answer shows the room given and `PAST` bytes behind it.
+//! A buffer is `BEFORE` in every byte until it is written to. Of M and N the answer shows the room given and `PAST`
+//! bytes behind it.
 
 use std::io::{self, Read};
 
@@ -220,8 +223,12 @@ mod tests {
     #[test]
     fn what_is_put_is_got() {
         let fields = [field("a", U32), field("b", U64), field("c", I64), field("d", Text)];
-        let values =
-            [Value::Number(1), Value::Number(u64::MAX.into()), Value::Number(i64::MIN.into()), Value::Bytes(b"1,2\r\n".to_vec())];
+        let values = [
+            Value::Number(1),
+            Value::Number(u64::MAX.into()),
+            Value::Number(i64::MIN.into()),
+            Value::Bytes(b"1,2\r\n".to_vec()),
+        ];
         let mut bytes = vec![];
         put(&mut bytes, &fields, &values);
         assert_eq!(bytes.len(), 4 + 8 + 8 + 4 + 5);
@@ -231,7 +238,9 @@ mod tests {
 
     #[test]
     fn sizes() {
-        let size = |fields: Option<Vec<Field>>| fields.unwrap().iter().map(|f| if f.form == U32 { 4 } else { 8 }).sum::<usize>();
+        let size = |fields: Option<Vec<Field>>| {
+            fields.unwrap().iter().map(|f| if f.form == U32 { 4 } else { 8 }).sum::<usize>()
+        };
         assert_eq!([b'A', b'S', b'T', b'X'].map(|k| 1 + size(case_fields(k))), [529, 529, 9, 1177]);
         assert_eq!([b'A', b'S', b'T', b'X'].map(|k| size(answer_fields(k))), [304, 16, 28, 28]);
     }

@@ -1,6 +1,6 @@
-//! A search for a counterexample to demand 3: on an admitted table every job starts before it has waited its slack, none is late, no
-//! release meets an unfinished job, and no partition is shared. Also how tight the test is: how often a table that is just not
-//! admitted, or one with still less slack, can be made to have a late job.
+//! A search for a counterexample to demand 3: on an admitted table every job starts before it has waited its slack,
+//! none is late, no release meets an unfinished job, and no partition is shared. Also how tight the test is: how often
+//! a table that is just not admitted, or one with still less slack, can be made to have a late job.
 
 use crate::admission::full;
 use crate::draw::reports::{acceptable, habit, Habit};
@@ -17,7 +17,8 @@ enum Plan {
     Habits(Habit),
     /// All at once when all may be, and then each as soon as it may be.
     Together,
-    /// The victim and those above it are held back until the machine has no room for the victim; then all that may be released is.
+    /// The victim and those above it are held back until the machine has no room for the victim; then all that may be
+    /// released is.
     Ambush { victim: u64, sprung: bool },
 }
 
@@ -67,7 +68,8 @@ fn slack(task: &Row) -> u32 {
     task.d - task.c
 }
 
-/// What an accepted tick on an admitted table must not show. A job that waits with S - 1 could start at S at the earliest.
+/// What an accepted tick on an admitted table must not show. A job that waits with S - 1 could start at S at the
+/// earliest.
 fn breach(after: &Machine, report: &Report) -> Option<String> {
     if report.late != 0 {
         return Some(format!("late: {}", report.late));
@@ -127,7 +129,8 @@ fn run(rng: &mut Rng, table: &Table, length: u64) -> Run {
     run
 }
 
-/// Every state that accepted reports can lead to, up to `most` states: the ticks tried, whether all were, and the first breach.
+/// Every state that accepted reports can lead to, up to `most` states: the ticks tried, whether all were, and the first
+/// breach.
 fn exhaust(table: &Table, most: usize) -> (u64, bool, Option<String>) {
     let fresh = Machine::fresh(table).expect("a good table");
     let n = table.n as usize;
@@ -242,7 +245,9 @@ fn tightness(rng: &mut Rng, edge: Edge, ticks: u64) {
         broken += u64::from(found.0);
         late += u64::from(found.1);
     }
-    println!("{edge:?}: of {tables} tables that are not admitted {broken} had a job that waited its slack, {late} a late one");
+    println!(
+        "{edge:?}: of {tables} tables that are not admitted {broken} had a job that waited its slack, {late} a late one"
+    );
 }
 
 /// Whether a job becomes late in a run that does not end at the first long wait.
@@ -276,7 +281,8 @@ pub fn search(ticks: u64, seed: u64) -> (u64, u64) {
 mod tests {
     use super::*;
 
-    /// The search finds what is there to find: with no slack left, jobs wait too long, become late, and releases meet them.
+    /// The search finds what is there to find: with no slack left, jobs wait too long, become late, and releases meet
+    /// them.
     #[test]
     fn overloaded_tables_are_caught() {
         let mut rng = Rng::new(1);

@@ -10,7 +10,8 @@ pub struct Row {
     pub a: u32,
 }
 
-/// `n` tasks on `m` cores and `p` partitions. Where `n` is good there are at least `n` rows; those past `n` are not the table's.
+/// `n` tasks on `m` cores and `p` partitions. Where `n` is good there are at least `n` rows; those past `n` are not the
+/// table's.
 #[derive(Clone, Debug, PartialEq, Eq)]
 pub struct Table {
     pub n: u64,
@@ -40,8 +41,8 @@ impl Table {
         &self.rows[..self.n as usize]
     }
 
-    /// Every complaint that can be made of the table, as (row, number). Refusals 1 to 3 are of row 0, so the order of document 01,
-    /// "1, 2, 3, then row by row 4 to 8", is the order of these pairs.
+    /// Every complaint that can be made of the table, as (row, number). Refusals 1 to 3 are of row 0, so the order of
+    /// document 01, "1, 2, 3, then row by row 4 to 8", is the order of these pairs.
     fn complaints(&self) -> BTreeSet<(u64, u32)> {
         let mut all = BTreeSet::new();
         let mut complain = |row: u64, number: u32, when: bool| {

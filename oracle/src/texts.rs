@@ -1,7 +1,7 @@
 //! The texts: what a good one is, how one is read, and how one is written.
 //!
-//! A text is good or it is not; that is one test on the whole. The offset of refusal 15 is then taken at its word: the longest
-//! beginning that can be gone on with to a good text, found by trying to go on.
+//! A text is good or it is not; that is one test on the whole. The offset of refusal 15 is then taken at its word: the
+//! longest beginning that can be gone on with to a good text, found by trying to go on.
 
 use crate::table::Refused;
 
@@ -38,8 +38,9 @@ pub fn good(form: &Form, text: &[u8]) -> Option<Vec<Vec<u32>>> {
     (!form.one_row || rows.len() == 1).then_some(rows)
 }
 
-/// Ends of good texts, one of which goes on from any beginning of `length` bytes that can be gone on with at all: the rest of the
-/// header (and a row); the rest of a row, from a place where digits must or may stand; the end of a line; nothing.
+/// Ends of good texts, one of which goes on from any beginning of `length` bytes that can be gone on with at all: the
+/// rest of the header (and a row); the rest of a row, from a place where digits must or may stand; the end of a line;
+/// nothing.
 fn endings(form: &Form, length: usize) -> Vec<String> {
     let header = format!("{}\r\n", form.header);
     if length < header.len() {
@@ -60,8 +61,8 @@ pub fn can_go_on(form: &Form, beginning: &[u8]) -> bool {
     endings(form, beginning.len()).iter().any(|end| good(form, &[beginning, end.as_bytes()].concat()).is_some())
 }
 
-/// The length of the longest beginning of the text that some good text also begins with. A beginning of a beginning is one too, so
-/// the longest is found by halving.
+/// The length of the longest beginning of the text that some good text also begins with. A beginning of a beginning is
+/// one too, so the longest is found by halving.
 pub fn offset(form: &Form, text: &[u8]) -> usize {
     let (mut fine, mut bad) = (0, text.len() + 1);
     while fine + 1 < bad {
@@ -155,8 +156,8 @@ mod tests {
         assert_eq!(read(&TASKS, &text), Err(Refused { number: 15, at: length + 4 }));
     }
 
-    /// The finite list of endings is enough: over a small alphabet, no beginning that is said to lead nowhere does lead to a good
-    /// text within a few bytes more.
+    /// The finite list of endings is enough: over a small alphabet, no beginning that is said to lead nowhere does lead
+    /// to a good text within a few bytes more.
     #[test]
     fn endings_suffice() {
         let alphabet = b"014,\r\n-";
@@ -186,7 +187,8 @@ mod tests {
     fn what_is_written_is_read() {
         let mut rng = Rng::new(2);
         for _ in 0..200 {
-            let rows: Vec<Vec<u32>> = (0..rng.range(0, 40)).map(|_| (0..4).map(|_| rng.scaled(0, u32::MAX)).collect()).collect();
+            let rows: Vec<Vec<u32>> =
+                (0..rng.range(0, 40)).map(|_| (0..4).map(|_| rng.scaled(0, u32::MAX)).collect()).collect();
             let text = write(&TASKS, &rows);
             assert_eq!(good(&TASKS, &text), Some(rows));
             for i in 0..text.len() {

@@ -1,9 +1,10 @@
-/* Reads cases from standard input, one after the other, and writes what the exported functions answer to them: the C side of the comparison with
- * the second program. oracle/src/records.rs states the form of both.
+/* Reads cases from standard input, one after the other, and writes what the exported functions answer to them: the C
+ * side of the comparison with the second program. oracle/src/records.rs states the form of both.
  *
- * What is lent ends where memory cannot be read, and what is only read must be after a call as it was before. The machine has guard bytes before and
- * behind it, and a refused call must leave it to the bit; a buffer has some before it, and so has what is behind its room. Where one of these
- * fails, the program says so and ends: the answers that are then missing count as failed. */
+ * What is lent ends where memory cannot be read, and what is only read must be after a call as it was before. The
+ * machine has guard bytes before and behind it, and a refused call must leave it to the bit; a buffer has some before
+ * it, and so has what is behind its room. Where one of these fails, the program says so and ends: the answers that are
+ * then missing count as failed. */
 #include "gorsetumble.h"
 
 #include "fence.h"
@@ -58,8 +59,8 @@ static void put_flag(const bool *x) { put32(*(const uint8_t *)x); }
 
 static size_t count_of(const Given *given) { return given->n < MOST_ROWS ? given->n : MOST_ROWS; }
 
-/* Puts as many rows as the case counts before the fence, and says how many of them the case has; the others are what an earlier case left there.
- * No rows are lent as null every other time. */
+/* Puts as many rows as the case counts before the fence, and says how many of them the case has; the others are what an
+ * earlier case left there. No rows are lent as null every other time. */
 static size_t lend_rows(const Given *given, gorsetumble_task **rows) {
     size_t count = count_of(given);
     size_t some = count < GORSETUMBLE_MOST_TASKS ? count : GORSETUMBLE_MOST_TASKS;
@@ -160,7 +161,8 @@ static void tick(void) {
 }
 
 /* stages that are none, of which some would pass for one at less than their full width */
-static const uint32_t no_stage[] = {3, 4, 255, 256, 257, 258, 65536, 65537, 65538, 0x80000000, 0x80000001, 0x80000002, UINT32_MAX};
+static const uint32_t no_stage[] = {3,     4,     255,        256,        257,        258,       65536,
+                                    65537, 65538, 0x80000000, 0x80000001, 0x80000002, UINT32_MAX};
 
 /* a job of no stage, whatever else the state is: refused under 14 */
 static void without_a_stage(void) {
@@ -169,7 +171,8 @@ static void without_a_stage(void) {
     *stage = no_stage[records % (sizeof no_stage / sizeof no_stage[0])];
     gorsetumble_answer a = brought(report);
     *stage = old;
-    hold_to(a.refused.number == 14 && a.refused.row == 0 && (a.finished | a.late | a.started) == 0, "a stage that is none is not refused under 14");
+    hold_to(a.refused.number == 14 && a.refused.row == 0 && (a.finished | a.late | a.started) == 0,
+            "a stage that is none is not refused under 14");
 }
 
 static void given(void) {
@@ -227,7 +230,8 @@ static void lend_file(size_t which) {
 
 static void texts_stay(size_t count) {
     for (size_t i = 0; i < count; i++) {
-        hold_to(memcmp(texts[i].copy, last(texts[i].room, texts[i].length), texts[i].length) == 0, "a text was written to");
+        hold_to(memcmp(texts[i].copy, last(texts[i].room, texts[i].length), texts[i].length) == 0,
+                "a text was written to");
     }
 }
 

@@ -1,17 +1,11 @@
-/* The calls of the C library that the tests use: the kit's clang brings no header files. */
+/* The calls of the C library that the tests use beside those of tests/c/std: the kit's clang brings no header files. */
 #pragma once
 #include <stddef.h>
 #include <stdint.h>
+#include <stdio.h>
+#include <stdlib.h>
 
-typedef struct file FILE;
-extern FILE *stdin, *stdout;
-
-extern int printf(const char *, ...);
 extern int dprintf(int, const char *, ...);
-extern int fflush(FILE *);
-extern size_t fread(void *, size_t, size_t, FILE *);
-extern size_t fwrite(const void *, size_t, size_t, FILE *);
-extern _Noreturn void exit(int);
 extern int memcmp(const void *, const void *, size_t);
 extern void *memcpy(void *, const void *, size_t);
 extern void *memset(void *, int, size_t);

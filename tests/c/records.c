@@ -1,5 +1,5 @@
-/* Calls with records: the cases of document 01, rows at the edges of every size, refusals that change nothing, and machines in use that are set up
- * anew. */
+/* Calls with records: the cases of document 01, rows at the edges of every size, refusals that change nothing, and
+ * machines in use that are set up anew. */
 #include "gorsetumble.h"
 
 #include "expect.h"
@@ -12,10 +12,13 @@ static bool refused(gorsetumble_refusal r, uint32_t number, size_t row) { return
 
 static bool same_task(Task x, Task y) { return x.d == y.d && x.t == y.t && x.c == y.c && x.a == y.a; }
 
-static bool same_job(gorsetumble_job x, gorsetumble_job y) { return x.stage == y.stage && x.age == y.age && x.ran == y.ran && x.held == y.held; }
+static bool same_job(gorsetumble_job x, gorsetumble_job y) {
+    return x.stage == y.stage && x.age == y.age && x.ran == y.ran && x.held == y.held;
+}
 
 static bool same(const Machine *x, const Machine *y) {
-    bool good = x->table.platform.cores == y->table.platform.cores && x->table.platform.partitions == y->table.platform.partitions && x->table.n == y->table.n;
+    bool good = x->table.platform.cores == y->table.platform.cores &&
+                x->table.platform.partitions == y->table.platform.partitions && x->table.n == y->table.n;
     for (size_t i = 0; i < GORSETUMBLE_MOST_TASKS; i++) {
         good = good && same_task(x->table.rows[i], y->table.rows[i]) && same_job(x->jobs[i], y->jobs[i]);
     }
@@ -43,10 +46,12 @@ static void fill(Task row) {
 }
 
 /* the two answers on a row, which must agree */
-static void judges(const char *what, Platform p, const Task *row, size_t n, uint32_t number, size_t at, size_t first, const int64_t *margins) {
+static void judges(const char *what, Platform p, const Task *row, size_t n, uint32_t number, size_t at, size_t first,
+                   const int64_t *margins) {
     gorsetumble_full_answer full = gorsetumble_full(p, row, n);
     gorsetumble_quick_answer quick = gorsetumble_quick(p, row, n);
-    bool good = refused(full.refused, number, at) && full.admitted == (number == 0 && first == 0) && full.first == first;
+    bool good =
+        refused(full.refused, number, at) && full.admitted == (number == 0 && first == 0) && full.first == first;
     for (size_t i = 0; i < GORSETUMBLE_MOST_TASKS; i++) {
         good = good && full.margins[i] == (margins != NULL && i < n ? margins[i] : 0);
     }
@@ -97,10 +102,13 @@ static void answers(void) {
     judges("the rows before and after are not read", wide, rows + 1, 15, 0, 0, 0, of_15);
 }
 
-static void ticks(const char *what, Machine *m, uint32_t released, uint32_t finished, uint32_t number, size_t task, uint32_t late, uint32_t started) {
+static void ticks(const char *what, Machine *m, uint32_t released, uint32_t finished, uint32_t number, size_t task,
+                  uint32_t late, uint32_t started) {
     Machine before = *m;
     gorsetumble_answer a = gorsetumble_tick(m, released, finished);
-    expect(refused(a.refused, number, task) && a.finished == (number == 0 ? finished : 0) && a.late == late && a.started == started, what);
+    expect(refused(a.refused, number, task) && a.finished == (number == 0 ? finished : 0) && a.late == late &&
+               a.started == started,
+           what);
     expect(number == 0 || same(m, &before), what);
 }
 

@@ -1,5 +1,6 @@
-/* The quick verdict on two texts, and set-up from them: the cases of document 01, each number that the verdict can answer, texts at the edges of every
- * size up to ten million bytes, and no text at all. Each text ends where memory cannot be read, and is compared after the calls with what it was. */
+/* The quick verdict on two texts, and set-up from them: the cases of document 01, each number that the verdict can
+ * answer, texts at the edges of every size up to ten million bytes, and no text at all. Each text ends where memory
+ * cannot be read, and is compared after the calls with what it was. */
 #include "gorsetumble.h"
 
 #include "expect.h"
@@ -22,8 +23,10 @@ static fenced platform_room, tasks_room;
 
 static gorsetumble_machine machine;
 
-/* Set-up answers the number of a refusal where the verdict is one, and else is not refused; refused, it changes nothing. */
-static gorsetumble_text_refusal sets_up(const char *what, const uint8_t *p, size_t p_length, const uint8_t *t, size_t t_length, uint32_t verdict) {
+/* Set-up answers the number of a refusal where the verdict is one, and else is not refused; refused, it changes
+ * nothing. */
+static gorsetumble_text_refusal sets_up(const char *what, const uint8_t *p, size_t p_length, const uint8_t *t,
+                                        size_t t_length, uint32_t verdict) {
     static gorsetumble_machine before;
     memset(&machine, 0xa5, sizeof machine);
     memcpy(&before, &machine, sizeof before);
@@ -69,9 +72,13 @@ static void places(void) {
 
 /* a machine of the table that the texts give, which runs P8 */
 static void runs(void) {
-    expect(judges("P8", PLATFORM("3,4"), TASKS("6,6,2,1\r\n8,8,3,2\r\n9,9,2,2\r\n12,12,2,1\r\n"), 101).refused.number == 0, "P8 is set up");
-    expect(machine.table.n == 4 && machine.table.platform.cores == 3 && machine.table.platform.partitions == 4, "P8's table");
-    expect(machine.table.rows[3].d == 12 && machine.table.rows[3].t == 12 && machine.table.rows[3].c == 2 && machine.table.rows[3].a == 1, "P8's last row");
+    const Text p8 = TASKS("6,6,2,1\r\n8,8,3,2\r\n9,9,2,2\r\n12,12,2,1\r\n");
+    expect(judges("P8", PLATFORM("3,4"), p8, 101).refused.number == 0, "P8 is set up");
+    expect(machine.table.n == 4 && machine.table.platform.cores == 3 && machine.table.platform.partitions == 4,
+           "P8's table");
+    expect(machine.table.rows[3].d == 12 && machine.table.rows[3].t == 12 && machine.table.rows[3].c == 2 &&
+               machine.table.rows[3].a == 1,
+           "P8's last row");
     expect(machine.table.rows[4].t == 0 && machine.jobs[4].age == 0, "nothing past n");
     expect(gorsetumble_tick(&machine, 15, 0).started == 3, "P8, tick 0");
     expect(gorsetumble_tick(&machine, 0, 0).started == 0, "P8, tick 1");
@@ -135,7 +142,7 @@ static void forms(void) {
 
 static char many[LARGEST];
 
-/* the header and as many rows as fit into so many bytes, the last made longer by digits until the length is just that */
+/* the header and as many rows as fit into so many bytes, the last made longer by digits until the length is that */
 static Text rows_of(const char *row, size_t length) {
     const char header[] = "D,T,C,A\r\n";
     size_t at = sizeof header - 1, step = 0;
@@ -153,7 +160,7 @@ static Text rows_of(const char *row, size_t length) {
     return (Text){many, length};
 }
 
-/* rows of one task that needs no partition and runs 1 of 65,535 ticks: up to 32 of them are admitted on a large platform */
+/* rows of one task that needs no partition and runs 1 of 65,535 ticks: up to 32 are admitted on a large platform */
 static void sizes(void) {
     const Text large = PLATFORM("16,64");
     const char row[] = "65535,65535,1,0\r\n";

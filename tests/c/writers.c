@@ -1,5 +1,5 @@
-/* What `admit` and `ticks` write, and the writers of the two texts, called from C: the cases of document 01, a buffer without a byte to spare and
- * one that is a byte too short, and bytes past the text that stay. */
+/* What `admit` and `ticks` write, and the writers of the two texts, called from C: the cases of document 01, a buffer
+ * without a byte to spare and one that is a byte too short, and bytes past the text that stay. */
 #include "gorsetumble.h"
 
 #include "expect.h"
@@ -35,11 +35,15 @@ static bool holds(const uint8_t *buffer, Text text) {
     return good;
 }
 
-static bool wrote(gorsetumble_written w, Text text) { return w.refused.number == 0 && w.refused.row == 0 && w.length == text.length && holds(out, text); }
+static bool wrote(gorsetumble_written w, Text text) {
+    return w.refused.number == 0 && w.refused.row == 0 && w.length == text.length && holds(out, text);
+}
 
 static bool too_short(gorsetumble_refusal r) { return r.number == GORSETUMBLE_REFUSED_ROOM && r.row == 0; }
 
-static bool wrote_nothing(gorsetumble_written w) { return too_short(w.refused) && w.length == 0 && holds(out, TEXT("")); }
+static bool wrote_nothing(gorsetumble_written w) {
+    return too_short(w.refused) && w.length == 0 && holds(out, TEXT(""));
+}
 
 static void admits(const char *what, Text platform, Text tasks, Text text) {
     clear();
@@ -66,9 +70,11 @@ static void programs(void) {
     admits("admit, a bad platform", TEXT("cores"), p1, TEXT("refused,row\r\n15,5\r\n"));
     admits("admit, no tasks", two_four, TEXT(""), TEXT("refused,row\r\n15,0\r\n"));
     lists("ticks, P8", three_four, p8, reports,
-        TEXT("tick,refused,finished,late,started\r\n0,0,0,0,3\r\n1,0,0,0,0\r\n2,0,1,0,4\r\n3,0,2,0,8\r\n4,0,4,0,0\r\n5,12,0,0,0\r\n5,0,8,0,0\r\n6,0,0,0,1\r\n"));
+          TEXT("tick,refused,finished,late,started\r\n0,0,0,0,3\r\n1,0,0,0,0\r\n2,0,1,0,4\r\n3,0,2,0,8\r\n4,0,4,0,0\r\n"
+               "5,12,0,0,0\r\n5,0,8,0,0\r\n6,0,0,0,1\r\n"));
     lists("ticks, none", three_four, p8, TEXT("released,finished\r\n"), TEXT("tick,refused,finished,late,started\r\n"));
-    lists("ticks, a bad ticks text before a bad table", TEXT("cores,partitions\r\n0,0\r\n"), p8, TEXT("released,finished\r\n1"), TEXT("refused,row\r\n15,20\r\n"));
+    lists("ticks, a bad ticks text before a bad table", TEXT("cores,partitions\r\n0,0\r\n"), p8,
+          TEXT("released,finished\r\n1"), TEXT("refused,row\r\n15,20\r\n"));
     lists("ticks, no core", TEXT("cores,partitions\r\n0,0\r\n"), p8, reports, TEXT("refused,row\r\n2,0\r\n"));
 }
 
@@ -109,7 +115,8 @@ static void at_once(const char *what, size_t platform_room, size_t tasks_room, b
     clear();
     gorsetumble_texts_written w = gorsetumble_write_texts(table_of(3), out, platform_room, other, tasks_room);
     if (fits) {
-        expect(w.refused.number == 0 && w.refused.row == 0 && w.platform == two_four.length && w.tasks == p1.length, what);
+        expect(w.refused.number == 0 && w.refused.row == 0 && w.platform == two_four.length && w.tasks == p1.length,
+               what);
         expect(holds(out, two_four) && holds(other, p1), what);
     } else {
         expect(too_short(w.refused) && w.platform == 0 && w.tasks == 0, what);
@@ -123,10 +130,13 @@ static void back(void) {
     memset(&read, BEFORE, sizeof read);
     memset(&lent, BEFORE, sizeof lent);
     at_once("written to be read", ROOM, ROOM, true);
-    expect(gorsetumble_set_up_texts(&read, out, two_four.length, other, p1.length).refused.number == 0, "what is written is read");
+    expect(gorsetumble_set_up_texts(&read, out, two_four.length, other, p1.length).refused.number == 0,
+           "what is written is read");
     expect(gorsetumble_set_up(&lent, (gorsetumble_platform){2, 4}, rows, 3).number == 0, "the rows themselves");
-    expect(read.table.n == 3 && memcmp(read.table.rows, lent.table.rows, sizeof read.table.rows) == 0, "and gives the rows back");
-    expect(gorsetumble_tick(&read, 7, 0).started == 3 && gorsetumble_tick(&lent, 7, 0).started == 3, "and both machines run");
+    expect(read.table.n == 3 && memcmp(read.table.rows, lent.table.rows, sizeof read.table.rows) == 0,
+           "and gives the rows back");
+    expect(gorsetumble_tick(&read, 7, 0).started == 3 && gorsetumble_tick(&lent, 7, 0).started == 3,
+           "and both machines run");
 }
 
 void writers(void) {

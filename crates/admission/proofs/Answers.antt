@@ -85,5 +85,6 @@ module _ (t : Table) where
   first-le len = by (unrefused t) refl
     where
       by : (b : Bool) → unrefused t ≡ b → cond b judged (quickRefused (refusal t)) .first ≤ mostTasks
-      by true e = le-trans (lowest-le (λ k. not (passes t k)) (t .n)) (good-of t len (eqb-true (refusal t .number) 0 e) .sizes .few)
+      by true e = le-trans (lowest-le (λ k. not (passes t k)) (t .n))
+          (good-of t len (eqb-true (refusal t .number) 0 e) .sizes .few)
       by false e = omega arith

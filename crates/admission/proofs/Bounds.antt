@@ -34,7 +34,8 @@ module _ {τ : Task} (g : GoodRow mostPartitions τ) where
   pub weight-le : {m b : ℕ} → m ≤ mostCores → b ≤ mostPartitions + 1 → weightOf m b (A τ) ≤ 1024
   weight-le l h = max-le (omega arith) (share-le l)
 
-  pub term-le : {m b s : ℕ} → m ≤ mostCores → b ≤ mostPartitions + 1 → s ≤ longestPeriod → weightOf m b (A τ) * equation3 s (row τ) ≤ mostTerm
+  pub term-le : {m b s : ℕ} → m ≤ mostCores → b ≤ mostPartitions + 1 → s ≤ longestPeriod
+      → weightOf m b (A τ) * equation3 s (row τ) ≤ mostTerm
   term-le l h w = mul-le-mul {n₂ = 1024} {m₂ = 4294967295} (weight-le l h) (interference-le w)
 
 pub limit-le : {m b s : ℕ} → m ≤ mostCores → b ≤ mostPartitions + 1 → s ≤ longestPeriod → limitOf m b s ≤ 68156400

@@ -19,7 +19,8 @@ use Rattle.maths.proofs.Tasks.{every-lowest, set-tabulate}
 use Rattle.table.specs.declared.Table.{Table}
 use Rattle.table.specs.Limits.{mostTasks}
 use Rattle.table.specs.Tasks.{τ, A}
-use Rattle.admission.specs.Test.{Amax, less, margin, above0, passes, weight, load, limit, interference, admitted, firstFailing}
+use Rattle.admission.specs.Test.{Amax, less, margin, above0, passes, weight, load, limit, interference, admitted}
+use Rattle.admission.specs.Test.{firstFailing}
 
 -- no task of 1 to k asks for more than Amax of k
 pub Amax-over : (t : Table) (k i : ℕ) → i < k → A (τ t (suc i)) ≤ Amax t k
@@ -89,11 +90,14 @@ margins-none t = refl
 
 pub margins-more : (t : Table) (k : ℕ) → k < mostTasks → set (marginsTo t k) k (margin t (suc k)) ≡ marginsTo t (k + 1)
 margins-more t k l =
-    let now : cond (leb (suc k) (k + 1)) (margin t (suc k)) (pos 0) ≡ margin t (suc k) = rw (le-leb (suc k) (k + 1) (omega arith)) in
+    let now : cond (leb (suc k) (k + 1)) (margin t (suc k)) (pos 0) ≡ margin t (suc k) =
+    rw (le-leb (suc k) (k + 1) (omega arith)) in
     ap (λ (z : ℤ). set (marginsTo t k) k z) (sym now)
-    ∙ set-tabulate (λ j. cond (leb j k) (margin t j) (pos 0)) (λ j. cond (leb j (k + 1)) (margin t j) (pos 0)) mostTasks k l (λ j m ne. other j ne)
+    ∙ set-tabulate (λ j. cond (leb j k) (margin t j) (pos 0))
+    (λ j. cond (leb j (k + 1)) (margin t j) (pos 0)) mostTasks k l (λ j m ne. other j ne)
   where
-    other : (j : ℕ) → j ≢ k → cond (leb (suc j) (k + 1)) (margin t (suc j)) (pos 0) ≡ cond (leb (suc j) k) (margin t (suc j)) (pos 0)
+    other : (j : ℕ) → j ≢ k
+        → cond (leb (suc j) (k + 1)) (margin t (suc j)) (pos 0) ≡ cond (leb (suc j) k) (margin t (suc j)) (pos 0)
     other j ne =
         elim (decLt j k) [
           | yes h ↦ rw (le-leb (suc j) (k + 1) (omega arith), le-leb (suc j) k h)

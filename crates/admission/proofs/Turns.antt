@@ -1,4 +1,5 @@
--- What the loops of the answers know: over the rows, that none so far is refused; over the tasks, what was measured of task k + 1, and its load up to row i.
+-- What the loops of the answers know: over the rows, that none so far is refused; over the tasks, what was measured of
+-- task k + 1, and its load up to row i.
 use Prim.Native.Nat.{ℕ, suc, _+_, _-_, _*_, _<_, _≤_, max}
 use mathlib.Core.Path.{_≡_, sym, _∙_, ap}
 use native.Mathlib.Omega.{arith}
@@ -25,7 +26,8 @@ pub record Checked (t : Table) (i : ℕ) : Type 0 where
   pub few : t .n ≤ mostTasks
   pub rest : refusal t ≡ rowsFrom (P t) (i + 1) (drop i (take (t .n) (t .rows)))
 
-pub sizes-bad : (t : Table) {number : ℕ} → number ≡ sizesRefusal t → (number ≡ 0 → ⊥) → Refused t (record { number = number; row = 0 })
+pub sizes-bad : (t : Table) {number : ℕ} → number ≡ sizesRefusal t → (number ≡ 0 → ⊥)
+    → Refused t (record { number = number; row = 0 })
 unfolding refusal
 sizes-bad t {number} e h = record { is = rw (← e) (simp (ne-eqb number 0 h)); some = h }
 
@@ -43,7 +45,8 @@ module _ {t : Table} where
     row-refused l e h = record { is = c .rest ∙ checks.row-bad (P t) (t .n) (t .rows) i l there _ e h; some = h }
 
     pub checked-more : i < t .n → 0 ≡ rowRefusal (P t) (getD (t .rows) i noTask) → Checked t (i + 1)
-    checked-more l e = record { whole = c .whole; few = c .few; rest = c .rest ∙ checks.row-good (P t) (t .n) (t .rows) i l there e }
+    checked-more l e =
+        record { whole = c .whole; few = c .few; rest = c .rest ∙ checks.row-good (P t) (t .n) (t .rows) i l there e }
 
     pub checked-all : i ≡ t .n → Unrefused t
     checked-all e =
@@ -67,8 +70,8 @@ module _ {t : Table} (g : Good t) {k : ℕ} (l : k < t .n) where
   measured-needs e = (rw e (Amax-le g k (omega arith)), g .sizes .partitions, g .row k l)
 
   module _ {x : Measures} where
-    pub measured : {a : ℕ} → a ≡ Amax t k → x .most .0 ≡ max a (A (τ t (suc k))) → x .b .0 ≡ P t - max a (A (τ t (suc k))) + 1
-        → x .s ≡ D (τ t (suc k)) - C (τ t (suc k)) → Measured t k x
+    pub measured : {a : ℕ} → a ≡ Amax t k → x .most .0 ≡ max a (A (τ t (suc k)))
+        → x .b .0 ≡ P t - max a (A (τ t (suc k))) + 1 → x .s ≡ D (τ t (suc k)) - C (τ t (suc k)) → Measured t k x
     measured e most b s = record { most = omega (arith, Amax-suc g k); b = omega (arith, Amax-suc g k); s = s }
 
     module _ (m : Measured t k x) where
@@ -83,12 +86,14 @@ module _ {t : Table} (g : Good t) {k : ℕ} (l : k < t .n) where
       loading-none = record { good = g; task = l; measures = m; is = sym (load-none t (suc k)); small = omega arith }
 
 module _ {t : Table} {k : ℕ} {x : Measures} {load i : ℕ} (c : Loading t k x load i) (h : i < t .n) where
-  pub term-needs : (M t ≤ mostCores) × (x .b .0 ≤ mostPartitions + 1) × (x .s ≤ longestPeriod) × GoodRow mostPartitions (τ t (suc i))
+  pub term-needs : (M t ≤ mostCores) × (x .b .0 ≤ mostPartitions + 1) × (x .s ≤ longestPeriod)
+      × GoodRow mostPartitions (τ t (suc i))
   term-needs =
       let n = limited-needs (c .good) (c .task) (c .measures) in
       (n .0, n .1, n .2, row-good (c .good) i h)
 
-  pub loading-more : {term : ℕ} → term ≡ weightOf (M t) (x .b .0) (A (τ t (suc i))) * equation3 (x .s) (row (τ t (suc i)))
+  pub loading-more : {term : ℕ}
+      → term ≡ weightOf (M t) (x .b .0) (A (τ t (suc i))) * equation3 (x .s) (row (τ t (suc i)))
       → Loading t k x (load + term) (i + 1)
   unfolding interference
   loading-more {term} e =

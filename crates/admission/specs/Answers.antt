@@ -1,5 +1,5 @@
--- The two answers of document 01: full, with the margin of each task 1 to n and 0 beyond, and quick, with the verdict and the first task
--- that does not pass. A refused table carries number and row, and all else is 0.
+-- The two answers of document 01: full, with the margin of each task 1 to n and 0 beyond, and quick, with the verdict
+-- and the first task that does not pass. A refused table carries number and row, and all else is 0.
 use Prim.Native.Nat.{ℕ}
 use mathlib.Core.Bool.{false, cond}
 use mathlib.Core.List.{List}
@@ -19,7 +19,8 @@ margins t = tabulate mostTasks (λ k. cond (leb k (t .n)) (margin t k) (pos 0))
 
 -- of a refused table
 abbrev pub fullRefused : Refusal → FullAnswer
-fullRefused refused = record { refused = refused; admitted = false; first = 0; margins = tabulate mostTasks (λ k. pos 0) }
+fullRefused refused =
+    record { refused = refused; admitted = false; first = 0; margins = tabulate mostTasks (λ k. pos 0) }
 
 abbrev pub quickRefused : Refusal → QuickAnswer
 quickRefused refused = record { refused = refused; admitted = false; first = 0 }

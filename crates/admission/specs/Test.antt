@@ -1,4 +1,5 @@
--- The second test of the report, of a table: the formulas are those of `crates/lives/specs/Report.antt`, and Amax and B are section 4.2.2's.
+-- The second test of the report, of a table: the formulas are those of `crates/lives/specs/Report.antt`, and Amax and B
+-- are section 4.2.2's.
 -- Tasks k and i are numbered from 1; the report's A, the partitions of the platform, is document 01's P.
 use Prim.Native.Nat.{ℕ, zero, suc, _+_, _-_, _*_, max}
 use mathlib.Core.Bool.{Bool, not}

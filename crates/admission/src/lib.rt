@@ -50,7 +50,8 @@ pub struct QuickAnswer {
 
 // Equation 3, of a task in a window of s ticks.
 fn interferes(s: u32, task: Task) -> u64
-    requires { ⌜ (s ≤ longestPeriod) × GoodRow mostPartitions task ⌝ }
+    requires { ⌜ (s ≤ longestPeriod)
+        × GoodRow mostPartitions task ⌝ }
     ensures { λ r. ⌜ r ≡ equation3 s (row task) ⌝ }
 {
     let jobs = s / task.t + 2;
@@ -68,7 +69,8 @@ fn weighs(m: Cores, b: Partitions, task: Task) -> u32
 
 // What a task adds to the load of one whose B is b and whose slack is s.
 fn term(m: Cores, b: Partitions, s: u32, task: Task) -> u64
-    requires { ⌜ (m .0 ≤ mostCores) × (b .0 ≤ mostPartitions + 1) × (s ≤ longestPeriod) × GoodRow mostPartitions task ⌝ }
+    requires { ⌜ (m .0 ≤ mostCores) × (b .0 ≤ mostPartitions + 1) × (s ≤ longestPeriod)
+        × GoodRow mostPartitions task ⌝ }
     ensures { λ r. ⌜ r ≡ weightOf (m .0) (b .0) (task .a .0) * equation3 s (row task) ⌝ }
 {
     let w = weighs(m, b, task);
@@ -114,7 +116,8 @@ fn largest(row: Task, most: Partitions) -> Partitions
 // Amax, B and S of task k + 1 on p partitions, from its row and from the Amax of task k.
 fn measured(p: Partitions, most: Partitions, row: Task) -> Measures
     requires { ⌜ (most .0 ≤ p .0) × (p .0 ≤ mostPartitions) × GoodRow (p .0) row ⌝ }
-    ensures { λ r. ⌜ (r .most .0 ≡ max (most .0) (row .a .0)) × (r .b .0 ≡ p .0 - max (most .0) (row .a .0) + 1) × (r .s ≡ D row - C row) ⌝ }
+    ensures { λ r. ⌜ (r .most .0 ≡ max (most .0) (row .a .0)) × (r .b .0 ≡ p .0 - max (most .0) (row .a .0) + 1)
+        × (r .s ≡ D row - C row) ⌝ }
 {
     let most = largest(row, most);
     Measures {
@@ -188,8 +191,8 @@ fn quick_judged(failing: usize) -> QuickAnswer
     }
 }
 
-// The verdict, the first task that does not pass, and the margin of each task; or the refusal. A function that is handed a table copies it, so
-// that the loops stand here and hand on one row.
+// The verdict, the first task that does not pass, and the margin of each task; or the refusal. A function that is
+// handed a table copies it, so that the loops stand here and hand on one row.
 pub fn full_answer(t: Table) -> FullAnswer
     ensures { λ r. ⌜ r ≡ fullAnswer t ⌝ }
 {
@@ -230,7 +233,8 @@ pub fn full_answer(t: Table) -> FullAnswer
     full_judged(first, margins)
 }
 
-// The verdict and the first task that does not pass; or the refusal. Both loops are left at once where a load reaches its limit.
+// The verdict and the first task that does not pass; or the refusal. Both loops are left at once where a load reaches
+// its limit.
 pub fn quick_answer(t: Table) -> QuickAnswer
     ensures { λ r. ⌜ r ≡ quickAnswer t ⌝ }
 {

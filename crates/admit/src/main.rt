@@ -1,4 +1,5 @@
-// Judges the table of platform.csv and tasks.csv, of the working folder, and writes a row for each task, or the refusal.
+// Judges the table of platform.csv and tasks.csv, of the working folder, and writes a row for each task, or the
+// refusal.
 ghost use mathlib.Core.Path.{_≡_};
 ghost use Rattle.table.specs.Refused.{noRefusal};
 ghost use Rattle.files.specs.Got.{Whole};

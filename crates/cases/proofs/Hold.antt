@@ -28,5 +28,9 @@ use Rattle.shares.specs.Explain.{explainText}
 use Rattle.cases.specs.Rows.{Case, answered, tickedRows, after, cases}
 
 pub cases-hold : map (λ (c : Case). answered (c .asked)) cases ≡ map (λ (c : Case). c .expected) cases
-unfolding padded sum every lowest tabulate digits digitsIn line lines run grow step rowsAt read tableRules rowRules rowsFrom refusal Amax interference load limit less fullAnswer quickAnswer size members setOf setWhere unionOf allApart choice running busy fresh goodJob goodState forTasks startWaiting tickRules firstGiven tickRefusal tick listing marginLines marginsText marginRow taken admitText verdict runRows ticksText flatten explainText tickedRows after cases
+unfolding padded sum every lowest tabulate digits digitsIn line lines run grow step rowsAt read tableRules rowRules
+    rowsFrom refusal Amax interference load limit less fullAnswer quickAnswer size members setOf setWhere unionOf
+    allApart choice running busy fresh goodJob goodState forTasks startWaiting tickRules firstGiven tickRefusal tick
+    listing marginLines marginsText marginRow taken admitText verdict runRows ticksText flatten
+    explainText tickedRows after cases
 cases-hold = refl

@@ -1,5 +1,6 @@
--- Cases P1 to P10 of document 01 and its cases at the limits: what is given, as the lines of the texts, what is asked, and the answer that
--- document 01 gives. `cases` is proved to give `expected` in proofs/Hold.antt, from the bytes of the texts on.
+-- Cases P1 to P10 of document 01 and its cases at the limits: what is given, as the lines of the texts, what is asked,
+-- and the answer that document 01 gives. `cases` is proved to give `expected` in proofs/Hold.antt, from the bytes of
+-- the texts on.
 use Prim.Native.Nat.{ℕ, _*_, _/_}
 use Prim.Native.String.{String}
 use mathlib.Core.Bool.{true, cond}
@@ -71,7 +72,8 @@ pub data Answered : Type 0 where
 
 -- the table of two good texts
 abbrev pub tableIn : Files → Table
-tableIn f = given (λ r. emptyTable noPlatform) (λ t. t) (read platformForm (csv (f .platform))) (read tasksForm (csv (f .tasks)))
+tableIn f = given (λ r. emptyTable noPlatform) (λ t. t) (read platformForm (csv (f .platform)))
+    (read tasksForm (csv (f .tasks)))
 
 abbrev pub refusalIn : Files → Refusal
 refusalIn f = given (λ r. r) refusal (read platformForm (csv (f .platform))) (read tasksForm (csv (f .tasks)))
@@ -81,7 +83,8 @@ answerRow n a = cond (a .admitted) (pos 1) (pos 0) ∷ pos (a .first) ∷ take n
 
 abbrev pub tickedRow : Ticked → List ℤ
 tickedRow r =
-    pos (r .answer .refused .number) ∷ pos (r .answer .refused .row) ∷ pos (r .answer .finished) ∷ pos (r .answer .late) ∷ pos (r .answer .started) ∷ []
+    pos (r .answer .refused .number) ∷ pos (r .answer .refused .row) ∷ pos (r .answer .finished) ∷
+    pos (r .answer .late) ∷ pos (r .answer .started) ∷ []
 
 unfoldable pub tickedRows : Machine → List Tick → List (List ℤ)
 tickedRows m [] = []
@@ -105,7 +108,8 @@ answered (ticked f xs) = numbers (tickedRows (fresh (tableIn f)) xs)
 answered (holds f xs k) = numbers ((pos (held (after (fresh (tableIn f)) xs) k) ∷ []) ∷ [])
 answered (refusalOf f) = numbers ((pos (refusalIn f .number) ∷ pos (refusalIn f .row) ∷ []) ∷ [])
 
--- a case: its number in document 01 (0 for its last line, which has none), what is asked, and the answer that document 01 gives
+-- a case: its number in document 01 (0 for its last line, which has none), what is asked, and the answer that document
+-- 01 gives
 pub record Case : Type 0 where
   pub number : ℕ
   pub asked : Asked

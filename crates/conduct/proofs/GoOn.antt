@@ -1,4 +1,5 @@
--- Time can always go on: in a good state a report is accepted that releases nothing and finishes exactly the jobs that, step 1 counted, have run C ticks.
+-- Time can always go on: in a good state a report is accepted that releases nothing and finishes exactly the jobs that,
+-- step 1 counted, have run C ticks.
 use Prim.Native.Nat.{ℕ, zero, suc, _-_, _<_, _≤_}
 use mathlib.Core.Path.{_≡_, refl, _∙_, ap}
 use mathlib.Core.Bool.{Bool, true, false, not, _&&_, _||_, and-false}
@@ -38,7 +39,8 @@ nobody : (k : ℕ) → hasTask 0 k ≡ false
 nobody k = has-none 0 k (bit-none 0 (k - 1) (bit-zero (k - 1)))
 
 past : (f : ℕ → Bool) (n k : ℕ) → n < k → hasTask (tasksWhere f n) k ≡ false
-past f n k l = has-none (tasksWhere f n) k (bit-none (tasksWhere f n) (k - 1) (where-above (λ i. f (suc i)) n (k - 1) (omega arith)))
+past f n k l = has-none (tasksWhere f n) k
+    (bit-none (tasksWhere f n) (k - 1) (where-above (λ i. f (suc i)) n (k - 1) (omega arith)))
 
 fails-10 : (a b : Bool) → a && b && not a ≡ false
 fails-10 true b = and-false b

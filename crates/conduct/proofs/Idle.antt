@@ -1,4 +1,5 @@
--- In a good state the idle partitions are those of the platform less A for each job that runs; and each running job is counted once.
+-- In a good state the idle partitions are those of the platform less A for each job that runs; and each running job is
+-- counted once.
 use Prim.Native.Nat.{ℕ, suc, _-_, _*_}
 use mathlib.Core.Path.{_≡_, refl, sym, _∙_}
 use mathlib.Core.Bool.{Bool, true, false}
@@ -39,7 +40,8 @@ module _ {m : Machine} (g : GoodState m) where
       ∙ sum-ext _ _ (m .table .n) (λ i l. held-size (g .each i l))
 
   pub idle-partitions : idlePartitions m .0 ≡ P (m .table) - heldCount m
-  idle-partitions = size-idle mostPartitions (P (m .table)) (busy m) (g .table .sizes .partitions) (busy-lt g) ∙ rw busy-size
+  idle-partitions =
+      size-idle mostPartitions (P (m .table)) (busy m) (g .table .sizes .partitions) (busy-lt g) ∙ rw busy-size
 
 pub running-jobs : (m : Machine) → running m ≡ Σ (m .table .n) (λ k. runs (life (job m k)))
 unfolding running

@@ -100,26 +100,31 @@ module _ (m : Machine) (R F : ℕ) (len : length (m .table .rows) ≡ mostTasks)
     started-is =
         let now-n : suc i ≤ moved m R F .table .n = rw (tick-moved m R F ok) at after-n in
         rw (tick-started m R F ok, tick-moved m R F ok)
-        (tasks-has (λ k. waits (readied m R F) k && runs (moved m R F) k) (moved m R F .table .n) (suc i) (omega arith) now-n)
+        (tasks-has (λ k. waits (readied m R F) k && runs (moved m R F) k) (moved m R F .table .n)
+        (suc i) (omega arith) now-n)
 
-    allows : Allowed (row τi) (L.rise (top τi) (life (job m (suc i)))) (hasTask F (suc i)) (hasTask R (suc i)) (hasTask S (suc i))
+    allows : Allowed (row τi) (L.rise (top τi) (life (job m (suc i)))) (hasTask F (suc i))
+        (hasTask R (suc i)) (hasTask S (suc i))
     allows =
         rw (started-is, is-readied)
         (allowed τi (hasTask R (suc i)) (hasTask F (suc i)) (job m (suc i)) (job x (suc i))
         (taken m R F (good-before .table .sizes .few) (accepted-is m R F ok) (suc i) (omega arith) l))
 
-    moves : L.start (hasTask S (suc i)) (L.release (hasTask R (suc i)) (L.finish (hasTask F (suc i)) (L.rise (top τi) (life (job m (suc i))))))
+    moves : L.start (hasTask S (suc i))
+        (L.release (hasTask R (suc i)) (L.finish (hasTask F (suc i)) (L.rise (top τi) (life (job m (suc i))))))
         ≡ life (job x (suc i))
     moves =
         rw (started-is, is-readied)
-        (lands τi (hasTask R (suc i)) (hasTask F (suc i)) (job m (suc i)) (job x (suc i)) (rw is-readied at (ended .reached .jobs i after-n)))
+        (lands τi (hasTask R (suc i)) (hasTask F (suc i)) (job m (suc i)) (job x (suc i))
+        (rw is-readied at (ended .reached .jobs i after-n)))
 
     full : L.waits (life (job x (suc i))) ≡ 1 → FullFor t x (suc i)
     full w =
         subst (λ (u : Table). FullFor u x (suc i)) same-table
         (full-of (ended .reached .good) (ended .stopped) i after-n (waits-of (job x (suc i)) w))
 
-  behind : (k i : ℕ) → k < t .n → i < t .n → L.waits (life (job x (suc k))) ≡ 1 → hasTask S (suc i) ≡ true → suc i < suc k
+  behind : (k i : ℕ) → k < t .n → i < t .n → L.waits (life (job x (suc k))) ≡ 1
+      → hasTask S (suc i) ≡ true → suc i < suc k
   behind k i l h w s =
       let b = both (waits (readied m R F) (suc i)) (runs x (suc i)) (sym (started-is i h) ∙ s) in
       omega (arith, ended .reached .order i k (after-n i h) (after-n k l) (b .0) (b .1) (waits-of (job x (suc k)) w))

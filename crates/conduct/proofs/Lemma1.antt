@@ -1,5 +1,6 @@
--- Lemma 1 of the report: in a good state in which step 5 has stopped, M jobs run or B partitions are held, for each task k that waits. Some task h
--- does not fit whose A is at most Amax of k: the first that waits. Another style has another `blocked`.
+-- Lemma 1 of the report: in a good state in which step 5 has stopped, M jobs run or B partitions are held, for each
+-- task k that waits. Some task h does not fit whose A is at most Amax of k: the first that waits. Another style has
+-- another `blocked`.
 use Prim.Native.Nat.{ℕ, zero, suc, _<_, _≤_}
 use mathlib.Core.Path.{_≡_, refl, sym, _∙_}
 use mathlib.Core.Bool.{Bool, true, false, cond, _&&_, true≢false}
@@ -47,13 +48,15 @@ blocked x e k n w = by (firstWaiting x) refl
           unfit = unfit h (fits x (suc h)) refl (sym (pick-first x (suc h) q) ∙ e);
         }
 
-pub full-of : {x : Machine} → GoodState x → pick x ≡ 0 → (k : ℕ) → k < x .table .n → waits x (suc k) ≡ true → FullFor (x .table) x (suc k)
+pub full-of : {x : Machine} → GoodState x → pick x ≡ 0 → (k : ℕ) → k < x .table .n → waits x (suc k) ≡ true
+    → FullFor (x .table) x (suc k)
 full-of {x} g e k n w = by (leb 1 (idleCores x .0)) refl (b .unfit)
   where
     b : Blocked x k
     b = blocked x e k n w
 
-    by : (c : Bool) → leb 1 (idleCores x .0) ≡ c → c && leb (A (τ (x .table) (suc (b .h)))) (idlePartitions x .0) ≡ false → FullFor (x .table) x (suc k)
+    by : (c : Bool) → leb 1 (idleCores x .0) ≡ c
+        → c && leb (A (τ (x .table) (suc (b .h)))) (idlePartitions x .0) ≡ false → FullFor (x .table) x (suc k)
     by true c f =
         let few : idlePartitions x .0 < A (τ (x .table) (suc (b .h))) = leb-false _ _ f in
         busyCache (omega (arith, idle-partitions g, b .asks, g .table .row (b .h) (b .task) .room))

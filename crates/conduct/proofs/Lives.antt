@@ -71,7 +71,8 @@ pub life-older : (τ : Task) (j : Job) → life (older τ j) ≡ rise (top τ) (
 life-older τ j = by (isRunning (j .stage)) (isWaiting (j .stage))
   where
     by : (run wait : Bool)
-        → cond run (running (min (j .age + 1) (top τ)) (cond run (j .ran + 1) (j .ran))) (cond wait (waiting (min (j .age + 1) (top τ))) (idle (min (j .age + 1) (top τ))))
+        → cond run (running (min (j .age + 1) (top τ)) (cond run (j .ran + 1) (j .ran)))
+        (cond wait (waiting (min (j .age + 1) (top τ))) (idle (min (j .age + 1) (top τ))))
         ≡ rise (top τ) (cond run (running (j .age) (j .ran)) (cond wait (waiting (j .age)) (idle (j .age))))
     by true wait = rw (add-one (j .age), add-one (j .ran))
     by false true = rw add-one
@@ -87,7 +88,8 @@ life-finished τ true j = rw (← life-older τ j, shows (older τ j) .age)
 life-finished τ false j = life-older τ j
 
 -- step 4
-pub life-readied : (τ : Task) (r f : Bool) (j : Job) → life (readiedJob τ r f j) ≡ release r (finish f (rise (top τ) (life j)))
+pub life-readied : (τ : Task) (r f : Bool) (j : Job)
+    → life (readiedJob τ r f j) ≡ release r (finish f (rise (top τ) (life j)))
 life-readied τ true f j = refl
 life-readied τ false f j = life-finished τ f j
 

@@ -1,4 +1,5 @@
--- What an accepted tick makes of each task: steps 1, 2, 4 and 5 of its life, by what the report and the answer say of it.
+-- What an accepted tick makes of each task: steps 1, 2, 4 and 5 of its life, by what the report and the answer say of
+-- it.
 use mathlib.Core.Path.{_≡_, refl, sym, _∙_}
 use mathlib.Core.Bool.{Bool, true, false, _&&_, true≢false}
 use mathlib.Core.Logic.{_≢_}
@@ -38,14 +39,18 @@ module _ (τ : Task) (r f : Bool) (j : Job) (b : Job) where
   allowed t =
       record {
         wasRunning = λ e. rw (← life-older τ j) (shows (older τ j) .runs ∙ rw (t .wasRunning e));
-        notOver = λ e p. over e (one-true (isRunning (j .stage)) (sym (shows (older τ j) .runs) ∙ rw (life-older τ j) p));
+        notOver =
+            λ e p. over e (one-true (isRunning (j .stage)) (sym (shows (older τ j) .runs) ∙ rw (life-older τ j) p));
         due = λ e. rw (← life-older τ j, shows (older τ j) .age) (t .due e);
-        free = λ e. rw (← life-finished τ f j) (shows (finishedJob τ f j) .idles (λ i. absurd (true≢false (sym (t .free e) ∙ i))) ∙ rw (t .free e));
-        queued = λ e. rw (← life-readied τ r f j) (shows (readiedJob τ r f j) .waits ∙ rw (starts-waiting (readiedJob τ r f j) b e));
+        free = λ e. rw (← life-finished τ f j)
+            (shows (finishedJob τ f j) .idles (λ i. absurd (true≢false (sym (t .free e) ∙ i))) ∙ rw (t .free e));
+        queued = λ e. rw (← life-readied τ r f j)
+            (shows (readiedJob τ r f j) .waits ∙ rw (starts-waiting (readiedJob τ r f j) b e));
       }
     where
       over : f ≡ false → isRunning (j .stage) ≡ true → ran (rise (top τ) (life j)) ≢ C τ
       over e p = rw (← life-older τ j, shows (older τ j) .ran p) (t .notOver p e)
 
-  pub lands : Began (readiedJob τ r f j) b → start (starts (readiedJob τ r f j) b) (release r (finish f (rise (top τ) (life j)))) ≡ life b
+  pub lands : Began (readiedJob τ r f j) b
+      → start (starts (readiedJob τ r f j) b) (release r (finish f (rise (top τ) (life j)))) ≡ life b
   lands s = rw (← life-readied τ r f j) (sym (life-started s))

@@ -29,24 +29,33 @@ use Rattle.conduct.proofs.Lives.{one}
 
 module _ {p : ℕ} {τ : Task} (row : GoodRow p τ) where
   -- a job that has not run C ticks
-  older-good : (j : Job) → GoodJob p τ j → (isRunning (j .stage) ≡ true → older τ j .ran ≢ C τ) → GoodJob p τ (older τ j)
+  older-good : (j : Job) → GoodJob p τ j → (isRunning (j .stage) ≡ true → older τ j .ran ≢ C τ)
+      → GoodJob p τ (older τ j)
   older-good j g w = record { age = omega arith; stage = by (g .stage) }
     where
       by : ByStage p τ j (j .stage) → ByStage p τ (older τ j) (j .stage)
       by (is-idle q b) =
-          is-idle q (record { rests = record { none = b .rests .none; unrun = rw q (b .rests .unrun) }; old = omega arith })
+          is-idle q
+          (record { rests = record { none = b .rests .none; unrun = rw q (b .rests .unrun) }; old = omega arith })
       by (is-waiting q b) = is-waiting q (record { none = b .none; unrun = rw q (b .unrun) })
       by (is-running q b) =
           let e : isRunning (j .stage) ≡ true = ap isRunning q in
           let over : j .ran + 1 ≢ C τ = rw e at (w e) in
-          is-running q (record { short = rw e (omega (arith, over)); younger = rw e (omega (arith, over)); count = b .count; cache = b .cache })
+          is-running q (record {
+            short = rw e (omega (arith, over));
+            younger = rw e (omega (arith, over));
+            count = b .count;
+            cache = b .cache;
+          })
 
-  finished-good : (f : Bool) (j : Job) → GoodJob p τ j → (isRunning (j .stage) ≡ true → f ≡ false → older τ j .ran ≢ C τ)
-      → GoodJob p τ (finishedJob τ f j)
-  finished-good true j g w = record { age = omega arith; stage = is-idle refl (record { rests = ended-rests (older τ j); old = omega arith }) }
+  finished-good : (f : Bool) (j : Job) → GoodJob p τ j
+      → (isRunning (j .stage) ≡ true → f ≡ false → older τ j .ran ≢ C τ) → GoodJob p τ (finishedJob τ f j)
+  finished-good true j g w =
+      record { age = omega arith; stage = is-idle refl (record { rests = ended-rests (older τ j); old = omega arith }) }
   finished-good false j g w = older-good j g (λ e. w e refl)
 
-  released-good : (r : Bool) (j : Job) → GoodJob p τ j → (r ≡ true → isIdle (j .stage) ≡ true) → GoodJob p τ (cond r (awaiting j) j)
+  released-good : (r : Bool) (j : Job) → GoodJob p τ j → (r ≡ true → isIdle (j .stage) ≡ true)
+      → GoodJob p τ (cond r (awaiting j) j)
   released-good true j g w =
       let i = when-idle g (w refl) in
       record { age = zero-le; stage = is-waiting refl (record { none = i .rests .none; unrun = i .rests .unrun }) }
@@ -69,14 +78,16 @@ module _ (m : Machine) (R F : ℕ) (g : GoodState m) (a : Accepted m R F) where
     few : suc i ≤ mostTasks
     few = omega (arith, g .table .sizes .few)
 
-    is : job (readied m R F) (suc i) ≡ readiedJob (τ (m .table) (suc i)) (hasTask R (suc i)) (hasTask F (suc i)) (job m (suc i))
+    is : job (readied m R F) (suc i)
+        ≡ readiedJob (τ (m .table) (suc i)) (hasTask R (suc i)) (hasTask F (suc i)) (job m (suc i))
     is = readied-job m (suc i) (omega arith) l few R F
 
     each-good : GoodJob (P (m .table)) (τ (m .table) (suc i)) (job (readied m R F) (suc i))
     each-good =
         let row = g .table .row i l in
         let t = taken m R F (g .table .sizes .few) a (suc i) (omega arith) l in
-        rw is (released-good row (hasTask R (suc i)) _ (finished-good row (hasTask F (suc i)) (job m (suc i)) (g .each i l) (t .notOver)) (t .free))
+        rw is (released-good row (hasTask R (suc i)) _
+        (finished-good row (hasTask F (suc i)) (job m (suc i)) (g .each i l) (t .notOver)) (t .free))
 
     within : Within (held (readied m R F) (suc i)) (held m (suc i))
     within = rw (held, is) (held-less (τ (m .table) (suc i)) (hasTask R (suc i)) (hasTask F (suc i)) (job m (suc i)))

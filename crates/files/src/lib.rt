@@ -18,7 +18,8 @@ struct Some {
 // One read into the buffer from a place on.
 fn read_some(fd: i32, buf: &mut [u8], at: usize) -> Some
     requires { ⌜ at ≤ length (now buf) ⌝ }
-    ensures { λ r. ⌜ (at + r .count ≤ length (now (buf .entry))) × (length (now (buf .exit)) ≡ length (now (buf .entry))) ⌝ }
+    ensures { λ r.
+        ⌜ (at + r .count ≤ length (now (buf .entry))) × (length (now (buf .exit)) ≡ length (now (buf .entry))) ⌝ }
 {
     let got = libc::read(fd, &mut buf[at..]);
     let n = io::count(got, &buf[at..]);

@@ -43,7 +43,8 @@ cases =
     ∷ case platformForm "cores,partitions\r\n2\r\n" (refused 19)
     ∷ case platformForm "cores,partitions\r\n2,4,6\r\n" (refused 21)
     ∷ case tasksForm "D,T,C,A\r\n" (found [])
-    ∷ case tasksForm "D,T,C,A\r\n40,50,2,1\r\n60,60,3,2\r\n" (found ((40 ∷ 50 ∷ 2 ∷ 1 ∷ []) ∷ (60 ∷ 60 ∷ 3 ∷ 2 ∷ []) ∷ []))
+    ∷ case tasksForm "D,T,C,A\r\n40,50,2,1\r\n60,60,3,2\r\n"
+    (found ((40 ∷ 50 ∷ 2 ∷ 1 ∷ []) ∷ (60 ∷ 60 ∷ 3 ∷ 2 ∷ []) ∷ []))
     -- another header, no line's end, a blank line, a number that nothing ends
     ∷ case tasksForm "d,T,C,A\r\n" (refused 0)
     ∷ case tasksForm "D,T,C,A" (refused 7)

@@ -1,4 +1,5 @@
--- A reader of a form reads each good text of it to the end, and has from each of its states a way on to the end of some text.
+-- A reader of a form reads each good text of it to the end, and has from each of its states a way on to the end of some
+-- text.
 use Prim.Native.Nat.{ℕ, zero, suc, _+_, _*_, _/_, _%_, _<_, _≤_, zero-le}
 use mathlib.Core.Path.{_≡_, refl, sym, ap, _∙_}
 use mathlib.Core.Bool.{Bool, true, false}
@@ -41,9 +42,11 @@ module _ (F : Form) where
   unfolding step
   step-word rows b w = rw (eq-eqb b b refl)
 
-  pub word-to : (rows : List (List ℕ)) (w rest : List ℕ) (a : List (List ℕ)) → To (word rows []) rest a → To (word rows w) (w ++ rest) a
+  pub word-to : (rows : List (List ℕ)) (w rest : List ℕ) (a : List (List ℕ)) → To (word rows []) rest a
+      → To (word rows w) (w ++ rest) a
   word-to rows [] rest a h = h
-  word-to rows (b ∷ w) rest a h = found-on (step F) (rowsAt F) _ _ b (w ++ rest) a (step-word rows b w) (word-to rows w rest a h)
+  word-to rows (b ∷ w) rest a h =
+      found-on (step F) (rowsAt F) _ _ b (w ++ rest) a (step-word rows b w) (word-to rows w rest a h)
 
   module _ (rows : List (List ℕ)) where
     step-digit : (ns : List ℕ) (m : ℕ) (cs : List ℕ) (v : Option ℕ) (c w : ℕ) → grow m v c ≡ some w
@@ -65,29 +68,36 @@ module _ (F : Form) where
             → To (cell rows ns m cs none) (digits v ++ rest) a
         go (yes lt) ih =
             rw (one-digit v lt)
-            (found-on (step F) (rowsAt F) _ _ (digit v) rest a (step-digit ns m cs none (digit v) v (grow-first m v lt f)) h)
+            (found-on (step F) (rowsAt F) _ _ (digit v) rest a
+            (step-digit ns m cs none (digit v) v (grow-first m v lt f)) h)
         go (no ge) ih =
             let e : 10 * (v / 10) + v % 10 ≡ v = omega arith in
-            let d : digits v ≡ digits (v / 10) ++ (digit (v % 10) ∷ []) = ap digits (sym e) ∙ add-digit (v / 10) (v % 10) (omega arith) (omega arith) in
+            let d : digits v ≡ digits (v / 10) ++ (digit (v % 10) ∷ []) =
+            ap digits (sym e) ∙ add-digit (v / 10) (v % 10) (omega arith) (omega arith) in
             rw (d, append-assoc)
             (ih (omega arith) ns m cs (digit (v % 10) ∷ rest) a (omega arith)
-            (found-on (step F) (rowsAt F) _ _ (digit (v % 10)) rest a (step-digit ns m cs (some (v / 10)) (digit (v % 10)) v (rw (grow-more m (v / 10) (v % 10) (omega arith) (omega arith) (omega arith)) (ap some e))) h))
+            (found-on (step F) (rowsAt F) _ _ (digit (v % 10)) rest a
+            (step-digit ns m cs (some (v / 10)) (digit (v % 10)) v
+            (rw (grow-more m (v / 10) (v % 10) (omega arith) (omega arith) (omega arith)) (ap some e))) h))
 
     step-comma : (ns : List ℕ) (m v n : ℕ) (cs : List ℕ)
         → step F (cell rows ns m (n ∷ cs) (some v)) 44 ≡ some (cell rows (ns ++ (v ∷ [])) n cs none)
     unfolding step grow
     step-comma ns m v n cs = refl
 
-    step-cr : (ns : List ℕ) (m v : ℕ) → step F (cell rows ns m [] (some v)) 13 ≡ some (word (rows ++ ((ns ++ (v ∷ [])) ∷ [])) (10 ∷ []))
+    step-cr : (ns : List ℕ) (m v : ℕ)
+        → step F (cell rows ns m [] (some v)) 13 ≡ some (word (rows ++ ((ns ++ (v ∷ [])) ∷ [])) (10 ∷ []))
     unfolding step grow
     step-cr ns m v = refl
 
     -- from behind a number to the end of its row
     after-to : (ns : List ℕ) (m v : ℕ) (cs vs rest : List ℕ) (a : List (List ℕ)) → Within cs vs
-        → To (word (rows ++ ((ns ++ (v ∷ vs)) ∷ [])) []) rest a → To (cell rows ns m cs (some v)) (ending (length vs) ++ line vs ++ rest) a
+        → To (word (rows ++ ((ns ++ (v ∷ vs)) ∷ [])) []) rest a
+        → To (cell rows ns m cs (some v)) (ending (length vs) ++ line vs ++ rest) a
     unfolding line
     after-to ns m v cs vs rest a Forms.none h =
-        found-on (step F) (rowsAt F) _ _ 13 _ a (step-cr ns m v) (found-on (step F) (rowsAt F) _ _ 10 _ a (step-word _ 10 []) h)
+        found-on (step F) (rowsAt F) _ _ 13 _ a (step-cr ns m v)
+        (found-on (step F) (rowsAt F) _ _ 10 _ a (step-word _ 10 []) h)
     after-to ns m v cs vs rest a (Forms.also {m = n} {n = u} {ms = cs′} {ns = us} f w) h =
         found-on (step F) (rowsAt F) _ _ 44 _ a (step-comma ns m v n cs′)
         (rw append-assoc
@@ -99,7 +109,8 @@ module _ (F : Form) where
     unfolding line
     row-to vs rest a (Forms.also {n = v} {ns = us} f w) h =
         rw append-assoc
-        (digits-to (suc v) v (omega arith) [] (F .first) (F .others) _ a f (after-to [] (F .first) v (F .others) us rest a w h))
+        (digits-to (suc v) v (omega arith) [] (F .first) (F .others) _ a f
+        (after-to [] (F .first) v (F .others) us rest a w h))
 
     end-to : (F .one ≡ true → 0 < length rows) → To (word rows []) [] rows
     unfolding run rowsAt
@@ -129,14 +140,16 @@ module _ (F : Form) where
   rows-to rows more (Forms.also {row} {rows = rest} w each) h =
       begin-to rows _ _ (λ e. let s = h e in omega arith)
       (row-to rows row (lines rest) _ w
-      (rw append-assoc at (rows-to (rows ++ (row ∷ [])) rest each (λ e. let s = h e in omega (arith, snoc-length rows row)))))
+      (rw append-assoc at
+      (rows-to (rows ++ (row ∷ [])) rest each (λ e. let s = h e in omega (arith, snoc-length rows row)))))
 
   -- reading what was written gives it back
   pub complete : (rows : List (List ℕ)) → GoodRows F rows → read F (text F rows) ≡ found rows
   unfolding read text
   complete rows good =
       rw (← append-assoc)
-      (word-to [] (F .header ++ crlf) (lines rows) rows (rows-to [] rows (good .each) (λ e. let s = good .alone e in omega arith)))
+      (word-to [] (F .header ++ crlf) (lines rows) rows
+      (rows-to [] rows (good .each) (λ e. let s = good .alone e in omega arith)))
 
   -- a row of zeros is good in every form
   zeros : List ℕ → List ℕ
@@ -155,12 +168,24 @@ module _ (F : Form) where
   live-word false e rows = ([], (rows, end-to rows (λ o. let z : _≡_ {A = ℕ} 0 1 = cc in omega arith)))
   live-word true e (row ∷ rows) = ([], (row ∷ rows, end-to (row ∷ rows) (λ o. omega arith)))
   live-word true e [] =
-      let row = zeros (columns F) in
-      (line row ++ [], (row ∷ [], begin-to [] _ _ (λ o. refl) (row-to [] row [] _ (zeros-within (columns F)) (ended-to [] row))))
+      let row = zeros (columns F) in (
+        line row ++ [],
+        (row ∷ [], begin-to [] _ _ (λ o. refl) (row-to [] row [] _ (zeros-within (columns F)) (ended-to [] row))),
+      )
 
   pub live : (s : State) → Begins (Takes (step F) (rowsAt F) s) []
   live (word rows w) =
       let on = live-word (F .one) refl rows in
       (w ++ on .0, (on .1 .0, word-to rows w (on .0) (on .1 .0) (on .1 .1)))
-  live (cell rows ns m cs none) = (digits 0 ++ (ending (length (zeros cs)) ++ line (zeros cs) ++ []), (_, digits-to rows 1 0 (omega arith) ns m cs _ _ (omega arith) (after-to rows ns m 0 cs (zeros cs) [] _ (zeros-within cs) (ended-to rows _))))
-  live (cell rows ns m cs (some v)) = (ending (length (zeros cs)) ++ line (zeros cs) ++ [], (_, after-to rows ns m v cs (zeros cs) [] _ (zeros-within cs) (ended-to rows _)))
+  live (cell rows ns m cs none) = (
+    digits 0 ++ (ending (length (zeros cs)) ++ line (zeros cs) ++ []),
+    (
+      _,
+      digits-to rows 1 0 (omega arith) ns m cs _ _ (omega arith)
+          (after-to rows ns m 0 cs (zeros cs) [] _ (zeros-within cs) (ended-to rows _)),
+    ),
+  )
+  live (cell rows ns m cs (some v)) = (
+    ending (length (zeros cs)) ++ line (zeros cs) ++ [],
+    (_, after-to rows ns m v cs (zeros cs) [] _ (zeros-within cs) (ended-to rows _)),
+  )

@@ -30,7 +30,8 @@ room (suc k) zero n h g = absurd (no g)
     no h = omega arith
 room (suc k) (suc j) n h g = go (decLt n 10) (room k j (n / 10))
   where
-    go : Dec (n < 10) → (n / 10 < k → n / 10 < j → digitsIn k (n / 10) ≡ digitsIn j (n / 10)) → digitsIn (suc k) n ≡ digitsIn (suc j) n
+    go : Dec (n < 10) → (n / 10 < k → n / 10 < j → digitsIn k (n / 10) ≡ digitsIn j (n / 10))
+        → digitsIn (suc k) n ≡ digitsIn (suc j) n
     go (yes lt) ih = last-digit k n lt ∙ sym (last-digit j n lt)
     go (no ge) ih =
         let less : 10 ≤ n = omega arith in

@@ -29,7 +29,8 @@ pub within-snoc : {ms ns : List ℕ} {m n : ℕ} → Within ms ns → n ≤ m �
 within-snoc Forms.none f = Forms.also f Forms.none
 within-snoc (Forms.also g w) f = Forms.also g (within-snoc w f)
 
-pub each-snoc : {ms row : List ℕ} {rows : List (List ℕ)} → EachRow ms rows → Within ms row → EachRow ms (rows ++ (row ∷ []))
+pub each-snoc : {ms row : List ℕ} {rows : List (List ℕ)} → EachRow ms rows → Within ms row
+    → EachRow ms (rows ++ (row ∷ []))
 each-snoc Forms.none w = Forms.also w Forms.none
 each-snoc (Forms.also v each) w = Forms.also v (each-snoc each w)
 

@@ -1,5 +1,5 @@
--- Of any reader that always has a way on: where it stops, what it has taken is the longest beginning of the text that some text
--- which it reads to the end also begins with.
+-- Of any reader that always has a way on: where it stops, what it has taken is the longest beginning of the text that
+-- some text which it reads to the end also begins with.
 use Prim.Native.Nat.{ℕ, zero, suc, _+_, _<_, _≤_}
 use mathlib.Core.Path.{_≡_, refl, sym, ap, _∙_}
 use mathlib.Core.List.{List, [], _∷_, _++_}
@@ -65,11 +65,13 @@ module _ {S A : Type 0} (step : S → ℕ → Option S) (answer : S → Option A
         longer zero h g w = omega arith
         longer (suc j) h g w = takes-not s c _ e (w .1)
 
-    further : (s t : S) (c : ℕ) (rest : List ℕ) → step s c ≡ some t → (x : Answer A) → Told t rest x → Told s (c ∷ rest) (later 1 x)
+    further : (s t : S) (c : ℕ) (rest : List ℕ) → step s c ≡ some t → (x : Answer A) → Told t rest x
+        → Told s (c ∷ rest) (later 1 x)
     further s t c rest e (found a) h = tt
     further s t c rest e (refused k) h =
         let one : 1 + k ≡ suc k = omega arith in
-        rw one (record { inside = omega arith; begins = (h .begins .0, takes-on s t c _ e (h .begins .1)); longest = longer })
+        rw one
+        (record { inside = omega arith; begins = (h .begins .0, takes-on s t c _ e (h .begins .1)); longest = longer })
       where
         longer : (j : ℕ) → suc k < j → j ≤ suc (length rest) → Begins (Takes s) (take j (c ∷ rest)) → ⊥
         longer zero f g w = omega arith

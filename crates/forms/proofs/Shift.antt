@@ -1,4 +1,5 @@
--- Where any number of rows may stand, rows that have come change nothing of what may follow: reading goes on as if it began there.
+-- Where any number of rows may stand, rows that have come change nothing of what may follow: reading goes on as if it
+-- began there.
 use Prim.Native.Nat.{ℕ}
 use mathlib.Core.Path.{_≡_, refl, sym, ap, _∙_}
 use mathlib.Core.Bool.{Bool, true, false}
@@ -8,7 +9,8 @@ use lib.Dec.{eqb}
 use Rattle.forms.specs.Bytes.{comma, cr}
 use Rattle.forms.specs.Forms.{Form}
 use Rattle.forms.specs.Reads.{Answer, found, refused}
-use Rattle.forms.specs.Reader.{run, later, ended, keep, grow, State, word, cell, leave, inside, mayBegin, mayEnd, step, rowsAt}
+use Rattle.forms.specs.Reader.{run, later, ended, keep, grow, State, word, cell, leave, inside, mayBegin, mayEnd}
+use Rattle.forms.specs.Reader.{step, rowsAt}
 use Rattle.forms.proofs.Runs.{stuck, moves}
 
 abbrev pub shift : List (List ℕ) → State → State
@@ -28,7 +30,8 @@ module _ (done : List (List ℕ)) where
   shift-keep true s = refl
   shift-keep false s = refl
 
-  shift-leave : (rows : List (List ℕ)) (ns cs : List ℕ) (c : ℕ) → leave (done ++ rows) ns cs c ≡ mapped (shift done) (leave rows ns cs c)
+  shift-leave : (rows : List (List ℕ)) (ns cs : List ℕ) (c : ℕ)
+      → leave (done ++ rows) ns cs c ≡ mapped (shift done) (leave rows ns cs c)
   shift-leave rows ns [] c = rw append-assoc (shift-keep (eqb c cr) (word (rows ++ (ns ∷ [])) _))
   shift-leave rows ns (m ∷ cs) c = shift-keep (eqb c comma) (cell rows ns m cs none)
 
@@ -55,13 +58,15 @@ module _ (done : List (List ℕ)) where
     prefixed-later (found rows) = refl
     prefixed-later (refused k) = refl
 
-    pub shift-run : (s : State) (bytes : List ℕ) → run (step F) (rowsAt F) (shift done s) bytes ≡ prefixed done (run (step F) (rowsAt F) s bytes)
+    pub shift-run : (s : State) (bytes : List ℕ)
+        → run (step F) (rowsAt F) (shift done s) bytes ≡ prefixed done (run (step F) (rowsAt F) s bytes)
     unfolding run
     shift-run s [] = shift-end s
     shift-run s (c ∷ rest) = go (step F s c) refl (λ t. shift-run t rest)
       where
         go : (o : Option State) → step F s c ≡ o
-            → ((t : State) → run (step F) (rowsAt F) (shift done t) rest ≡ prefixed done (run (step F) (rowsAt F) t rest))
+            → ((t : State)
+            → run (step F) (rowsAt F) (shift done t) rest ≡ prefixed done (run (step F) (rowsAt F) t rest))
             → run (step F) (rowsAt F) (shift done s) (c ∷ rest) ≡ prefixed done (run (step F) (rowsAt F) s (c ∷ rest))
         go none e ih =
             stuck (step F) (rowsAt F) (shift done s) c rest (shift-step s c ∙ ap (mapped (shift done)) e)

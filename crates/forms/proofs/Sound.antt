@@ -1,5 +1,5 @@
--- What a reader of a form reads to the end is the good text of the rows that it answers: in each state, the bytes that have come
--- are the beginning of a good text that the state says they are.
+-- What a reader of a form reads to the end is the good text of the rows that it answers: in each state, the bytes that
+-- have come are the beginning of a good text that the state says they are.
 use Prim.Native.Nat.{ℕ, _<_, _≤_, zero-le}
 use mathlib.Core.Path.{_≡_, refl, sym, ap, _∙_}
 use mathlib.Core.Bool.{Bool, true, false, cond}
@@ -12,7 +12,8 @@ use lib.ListN.{length, length-append}
 use Rattle.forms.specs.Forms
 use Rattle.forms.specs.Forms.{Form, columns, Within, EachRow, GoodRows, lines, text}
 use Rattle.forms.specs.Reads.{Answer, found, refused}
-use Rattle.forms.specs.Reader.{run, later, ended, keep, grow, State, word, cell, leave, inside, mayBegin, mayEnd, step, rowsAt, start}
+use Rattle.forms.specs.Reader.{run, later, ended, keep, grow, State, word, cell, leave, inside, mayBegin, mayEnd}
+use Rattle.forms.specs.Reader.{step, rowsAt, start}
 use Rattle.forms.proofs.Lines.{cells, part, bound, within-snoc, each-snoc, line-snoc, cells-snoc, text-snoc}
 use Rattle.forms.proofs.Grow.{GrownIf, grown}
 use Rattle.forms.proofs.Runs.{stuck, moves}
@@ -23,7 +24,8 @@ module _ (F : Form) where
     each : EachRow (columns F) rows
     alone : F .one ≡ true → length rows ≤ 1
 
-  pub record AtCell (rows : List (List ℕ)) (ns : List ℕ) (m : ℕ) (cs : List ℕ) (v : Option ℕ) (bytes : List ℕ) : Type 0 where
+  pub record AtCell (rows : List (List ℕ)) (ns : List ℕ) (m : ℕ) (cs : List ℕ) (v : Option ℕ)
+      (bytes : List ℕ) : Type 0 where
     spelt : bytes ≡ text F rows ++ (cells ns ++ part v)
     each : EachRow (columns F) rows
     alone : F .one ≡ true → length rows ≡ 0
@@ -64,7 +66,8 @@ module _ (F : Form) where
         fits = zero-le;
       }
 
-  at-inside : (rows : List (List ℕ)) (ns : List ℕ) (m : ℕ) (cs : List ℕ) (v : Option ℕ) (bytes : List ℕ) (c : ℕ) (w : Option ℕ)
+  at-inside : (rows : List (List ℕ)) (ns : List ℕ) (m : ℕ) (cs : List ℕ) (v : Option ℕ)
+      (bytes : List ℕ) (c : ℕ) (w : Option ℕ)
       → GrownIf m v c w → AtCell rows ns m cs v bytes → AtIf (inside rows ns m cs v c w) (bytes ++ (c ∷ []))
   at-inside rows ns m cs v bytes c (some w) g h =
       record {
@@ -91,10 +94,20 @@ module _ (F : Form) where
   at-step (word rows []) c bytes h = go (mayBegin (F .one) rows) refl
     where
       go : (b : Bool) → mayBegin (F .one) rows ≡ b
-          → AtIf (cond b (inside rows [] (F .first) (F .others) none c (grow (F .first) none c)) none) (bytes ++ (c ∷ []))
+          → AtIf (cond b (inside rows [] (F .first) (F .others) none c (grow (F .first) none c)) none)
+          (bytes ++ (c ∷ []))
       go false e = tt
-      go true e = at-inside rows [] (F .first) (F .others) none bytes c (grow (F .first) none c) (grown (F .first) none c)
-          record { spelt = rw append-nil at (h .spelt) ∙ sym (append-nil (text F rows)); each = h .each; alone = may-begin (F .one) rows e; past = []; split = refl; within = Forms.none; fits = zero-le }
+      go true e =
+          at-inside rows [] (F .first) (F .others) none bytes c (grow (F .first) none c) (grown (F .first) none c)
+          record {
+            spelt = rw append-nil at (h .spelt) ∙ sym (append-nil (text F rows));
+            each = h .each;
+            alone = may-begin (F .one) rows e;
+            past = [];
+            split = refl;
+            within = Forms.none;
+            fits = zero-le;
+          }
   at-step (cell rows ns m cs v) c bytes h = at-inside rows ns m cs v bytes c (grow m v c) (grown m v c) h
 
   may-end : (b : Bool) (rows : List (List ℕ)) → mayEnd b rows ≡ true → b ≡ true → 0 < length rows
@@ -126,16 +139,19 @@ module _ (F : Form) where
   at-end (word rows (b ∷ w)) bytes h = tt
   at-end (cell rows ns m cs v) bytes h = tt
 
-  pub sound : (s : State) (before bytes : List ℕ) → At s before → Right (before ++ bytes) (run (step F) (rowsAt F) s bytes)
+  pub sound : (s : State) (before bytes : List ℕ) → At s before
+      → Right (before ++ bytes) (run (step F) (rowsAt F) s bytes)
   unfolding run
   sound s before [] h = rw append-nil (at-end s before h)
   sound s before (c ∷ rest) h = go (step F s c) refl (at-step s c before h) (λ t. sound t (before ++ (c ∷ [])) rest)
     where
       go : (o : Option State) → step F s c ≡ o → AtIf o (before ++ (c ∷ []))
-          → ((t : State) → At t (before ++ (c ∷ [])) → Right (before ++ (c ∷ []) ++ rest) (run (step F) (rowsAt F) t rest))
+          → ((t : State) → At t (before ++ (c ∷ []))
+          → Right (before ++ (c ∷ []) ++ rest) (run (step F) (rowsAt F) t rest))
           → Right (before ++ (c ∷ rest)) (run (step F) (rowsAt F) s (c ∷ rest))
       go none e i ih = rw (stuck (step F) (rowsAt F) s c rest e) tt
-      go (some t) e i ih = rw (moves (step F) (rowsAt F) s t c rest e) (right-later (before ++ (c ∷ rest)) (run (step F) (rowsAt F) t rest) (rw append-assoc at (ih t i)))
+      go (some t) e i ih = rw (moves (step F) (rowsAt F) s t c rest e)
+          (right-later (before ++ (c ∷ rest)) (run (step F) (rowsAt F) t rest) (rw append-assoc at (ih t i)))
 
   pub at-start : At (start F) []
   unfolding text lines

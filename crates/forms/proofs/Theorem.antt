@@ -14,8 +14,8 @@ use Rattle.forms.proofs.Runs.{Takes, Told, told}
 use Rattle.forms.proofs.Complete.{complete, live}
 use Rattle.forms.proofs.Sound.{Right, sound, at-start}
 
-same-longest : {Is Was : List ℕ → Type 0} {bytes : List ℕ} {k : ℕ} → ((b : List ℕ) → Is b → Was b) → ((b : List ℕ) → Was b → Is b)
-    → Longest Is bytes k → Longest Was bytes k
+same-longest : {Is Was : List ℕ → Type 0} {bytes : List ℕ} {k : ℕ} → ((b : List ℕ) → Is b → Was b)
+    → ((b : List ℕ) → Was b → Is b) → Longest Is bytes k → Longest Was bytes k
 same-longest to from h =
     record {
       inside = h .inside;
@@ -33,12 +33,14 @@ one-longest {j} {k} g h = go (decLt j k) (decLt k j)
 
 module _ (F : Form) where
   -- writing what was read gives the same bytes
-  pub written : (bytes : List ℕ) (rows : List (List ℕ)) → read F bytes ≡ found rows → GoodRows F rows × (text F rows ≡ bytes)
+  pub written : (bytes : List ℕ) (rows : List (List ℕ)) → read F bytes ≡ found rows
+      → GoodRows F rows × (text F rows ≡ bytes)
   unfolding read
   written bytes rows e = rw e at (sound F (start F) [] bytes (at-start F))
 
   -- two good inputs with the same text are equal
-  pub unique : (rows others : List (List ℕ)) → GoodRows F rows → GoodRows F others → text F rows ≡ text F others → rows ≡ others
+  pub unique : (rows others : List (List ℕ)) → GoodRows F rows → GoodRows F others
+      → text F rows ≡ text F others → rows ≡ others
   unique rows others g h e =
       let x : found rows ≡ found others = sym (complete F rows g) ∙ ap (read F) e ∙ complete F others h in
       cc
@@ -70,4 +72,5 @@ module _ (F : Form) where
   only bytes (refused j) (refused k) g h = ap refused (one-longest (g .offset) (h .offset))
 
 pub reads-rightly : ReadsRightly
-reads-rightly = record { reads = reads; only = λ F bytes x h. only F bytes x (read F bytes) h (reads F bytes); back = complete }
+reads-rightly =
+    record { reads = reads; only = λ F bytes x h. only F bytes x (read F bytes) h (reads F bytes); back = complete }

@@ -1,4 +1,5 @@
--- The bytes of a number in document 01's texts: decimal, without sign, space, quote or leading zero; 0 itself is one digit.
+-- The bytes of a number in document 01's texts: decimal, without sign, space, quote or leading zero; 0 itself is one
+-- digit.
 use Prim.Native.Nat.{ℕ, zero, suc, _+_, _/_, _%_}
 use mathlib.Core.Bool.{true, false}
 use mathlib.Core.List.{List, [], _∷_, _++_}

@@ -1,5 +1,5 @@
--- The forms of document 01's texts as data, which rows are good in a form, and the one good text of such rows: every line
--- ends in CR LF, the last too.
+-- The forms of document 01's texts as data, which rows are good in a form, and the one good text of such rows: every
+-- line ends in CR LF, the last too.
 use Prim.Native.Nat.{ℕ, zero, suc, _≤_}
 use mathlib.Core.Path.{_≡_}
 use mathlib.Core.Bool.{Bool, true, false}

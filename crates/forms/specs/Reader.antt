@@ -1,5 +1,5 @@
--- A reader of one form, a byte at a time. Its state is what may still come; it stops at the first byte that may not. That it reads
--- rightly (Reads.antt) is proved in proofs/.
+-- A reader of one form, a byte at a time. Its state is what may still come; it stops at the first byte that may not.
+-- That it reads rightly (Reads.antt) is proved in proofs/.
 use Prim.Native.Nat.{ℕ, _+_, _-_, _*_}
 use mathlib.Core.Bool.{Bool, true, false, cond, _&&_}
 use mathlib.Core.List.{List, [], _∷_, _++_}
@@ -38,7 +38,8 @@ grow most (some v) c = keep (isDigit c && ltb 0 v && leb (10 * v + (c - 48)) mos
 pub data State : Type 0 where
   -- these rows have come; then these bytes, and then a row or the end
   word : List (List ℕ) → List ℕ → State
-  -- these rows have come, and of the next these numbers; then a number of this column, of which v has come or nothing, and numbers of these columns
+  -- these rows have come, and of the next these numbers; then a number of this column, of which v has come or nothing,
+  -- and numbers of these columns
   cell : List (List ℕ) → List ℕ → ℕ → List ℕ → Option ℕ → State
 
 -- the row has numbers, and further columns: a comma, or CR LF
@@ -51,7 +52,8 @@ inside rows numbers most mosts v c (some w) = some (cell rows numbers most mosts
 inside rows numbers most mosts none c none = none
 inside rows numbers most mosts (some v) c none = leave rows (numbers ++ (v ∷ [])) mosts c
 
--- whether a row may begin, and whether the text may end, where these rows have come; exactly one row is wanted, or any number
+-- whether a row may begin, and whether the text may end, where these rows have come; exactly one row is wanted, or any
+-- number
 abbrev pub mayBegin : Bool → List (List ℕ) → Bool
 mayBegin true [] = true
 mayBegin true (row ∷ rows) = false

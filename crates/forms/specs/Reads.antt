@@ -1,5 +1,5 @@
--- What it is to read a text rightly, in document 01's words: the rows whose good text it is, or else refusal 15 with the length of
--- the longest beginning of the text that some good text also begins with.
+-- What it is to read a text rightly, in document 01's words: the rows whose good text it is, or else refusal 15 with
+-- the length of the longest beginning of the text that some good text also begins with.
 use Prim.Native.Nat.{ℕ, _≤_, _<_}
 use mathlib.Core.Path.{_≡_}
 use mathlib.Core.List.{List, _++_}

@@ -1,4 +1,5 @@
--- The board's own path: the verdict means what it should, and after a 0 the machine that the same texts set up keeps the promise.
+-- The board's own path: the verdict means what it should, and after a 0 the machine that the same texts set up keeps
+-- the promise.
 use Prim.Native.Nat.{ℕ, zero, suc, _+_, _≤_}
 use mathlib.Core.Path.{_≡_, refl, sym, ap, _∙_}
 use mathlib.Core.Bool.{true, cond}
@@ -32,7 +33,8 @@ use Rattle.texts.proofs.Answers.{numbered-refused}
 use Rattle.promise.specs.Promise.{Admitted}
 use Rattle.promise.proofs.Calls.{are-steps}
 use Rattle.gorsetumble.specs.Board as board
-use Rattle.gorsetumble.specs.Board.{GoodTexts, tableIn, Means, boardsNumber, BoardsVerdict, BoardsSetUp, BoardsPromise, BoardsPromiseOfCalls}
+use Rattle.gorsetumble.specs.Board.{GoodTexts, tableIn, Means, boardsNumber, BoardsVerdict, BoardsSetUp}
+use Rattle.gorsetumble.specs.Board.{BoardsPromise, BoardsPromiseOfCalls}
 use Rattle.gorsetumble.specs.FromTexts.{ofTable, setUpTexts}
 use Rattle.gorsetumble.proofs.Demands.{promised}
 
@@ -83,30 +85,36 @@ module _ (platform tasks : List ℕ) where
           rw (number-admitted t none a) (board.admitted g none a)
       first none (suc k) e =
           let most : test.firstFailing t ≤ mostTasks = rw (quick-unrefused t none) at (first-le t (whole g)) in
-          rw (number-failing t none (suc k) (omega arith) e) (board.failing g (suc k) (omega arith) (omega (arith, most, e)) none e)
+          rw (number-failing t none (suc k) (omega arith) e)
+          (board.failing g (suc k) (omega arith) (omega (arith, most, e)) none e)
 
       by : (k : ℕ) → refusal t .number ≡ k → Means platform tasks (quickNumber t)
       by zero e = first e (test.firstFailing t) refl
       by (suc k) e =
-          rw (number-refused t (λ z. omega (arith, z, e)) ∙ e) (board.refused g (suc k) (omega arith) (omega (arith, refusal-carries t (whole g) .number, e)) e)
+          rw (number-refused t (λ z. omega (arith, z, e)) ∙ e)
+          (board.refused g (suc k) (omega arith) (omega (arith, refusal-carries t (whole g) .number, e)) e)
 
-  means-of : (x y : Answer (List (List ℕ))) → Reads platformForm platform x → Reads tasksForm tasks y → Means platform tasks (given numberOf quickNumber x y)
+  means-of : (x y : Answer (List (List ℕ))) → Reads platformForm platform x → Reads tasksForm tasks y
+      → Means platform tasks (given numberOf quickNumber x y)
   means-of (refused k) y h i = board.noText (λ g. h .bad (g .0))
   means-of (found rows) (refused k) h i = board.noText (λ g. i .bad (g .1))
   means-of (found rows) (found others) h i = means-table ((rows, h .0, h .1), (others, i .0, i .1))
 
   means : Means platform tasks (verdict platform tasks)
   unfolding verdict
-  means = means-of (read platformForm platform) (read tasksForm tasks) (reads platformForm platform) (reads tasksForm tasks)
+  means =
+      means-of (read platformForm platform) (read tasksForm tasks) (reads platformForm platform) (reads tasksForm tasks)
 
   exactly : (v : ℕ) → Means platform tasks v → verdict platform tasks ≡ v
   unfolding verdict
   exactly v (board.admitted g none a) = verdict-of g ∙ number-admitted (tableIn g) none a
   exactly v (board.refused g k l m e) = verdict-of g ∙ number-refused (tableIn g) (λ z. omega (arith, z, e)) ∙ e
   exactly v (board.failing g k l m none e) = verdict-of g ∙ number-failing (tableIn g) none k l e
-  exactly v (board.noText h) = none (read platformForm platform) (read tasksForm tasks) (reads platformForm platform) (reads tasksForm tasks)
+  exactly v (board.noText h) =
+      none (read platformForm platform) (read tasksForm tasks) (reads platformForm platform) (reads tasksForm tasks)
     where
-      none : (x y : Answer (List (List ℕ))) → Reads platformForm platform x → Reads tasksForm tasks y → given numberOf quickNumber x y ≡ 15
+      none : (x y : Answer (List (List ℕ))) → Reads platformForm platform x → Reads tasksForm tasks y
+          → given numberOf quickNumber x y ≡ 15
       none (refused k) y i j = refl
       none (found rows) (refused k) i j = refl
       none (found rows) (found others) i j = absurd (h ((rows, i .0, i .1), (others, j .0, j .1)))
@@ -116,7 +124,12 @@ module _ (platform tasks : List ℕ) where
   listed v (board.refused g k l m e) = rw (le-leb k 8 m)
   listed v (board.noText h) = refl
   listed v (board.failing g k l m none e) =
-      rw (lt-leb (100 + k) 8 (omega arith), ne-eqb (100 + k) 15 (λ z. omega (arith, z)), le-leb 101 (100 + k) (omega arith), le-leb (100 + k) (100 + mostTasks) (omega arith))
+      rw (
+        lt-leb (100 + k) 8 (omega arith),
+        ne-eqb (100 + k) 15 (λ z. omega (arith, z)),
+        le-leb 101 (100 + k) (omega arith),
+        le-leb (100 + k) (100 + mostTasks) (omega arith),
+      )
 
   one-table : (g h : GoodTexts platform tasks) → tableIn g ≡ tableIn h
   one-table g h = rw (one-rows platformForm platform (g .0) (h .0), one-rows tasksForm tasks (g .1) (h .1))
@@ -126,12 +139,16 @@ module _ (platform tasks : List ℕ) where
 
   -- a 0 is an admitted table
   zero-means : (v : ℕ) → Means platform tasks v → v ≡ 0 → (g : GoodTexts platform tasks) × Admitted (tableIn g)
-  zero-means v (board.admitted g none a) z = (g, record { whole = whole g; verdict = ap (λ (q : QuickAnswer). q .admitted) (quick-unrefused (tableIn g) none) ∙ a })
+  zero-means v (board.admitted g none a) z = (
+    g,
+    record { whole = whole g; verdict = ap (λ (q : QuickAnswer). q .admitted) (quick-unrefused (tableIn g) none) ∙ a },
+  )
   zero-means v (board.refused g k l m e) z = absurd (omega arith)
   zero-means v (board.noText h) z = absurd (omega arith)
   zero-means v (board.failing g k l m none e) z = absurd (omega arith)
 
-  set-up-of : (old : Machine) (g : GoodTexts platform tasks) → setUpTexts old platform tasks ≡ ofTable (setUp old (tableIn g))
+  set-up-of : (old : Machine) (g : GoodTexts platform tasks)
+      → setUpTexts old platform tasks ≡ ofTable (setUp old (tableIn g))
   unfolding setUpTexts
   set-up-of old g = rw (good-read platformForm platform (g .0), good-read tasksForm tasks (g .1))
 

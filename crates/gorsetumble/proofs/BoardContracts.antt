@@ -1,4 +1,5 @@
--- What the contracts of the board's three calls say is what `BoardsCalls` (specs/Board.antt) asks of the values that they give.
+-- What the contracts of the board's three calls say is what `BoardsCalls` (specs/Board.antt) asks of the values that
+-- they give.
 use Prim.Native.Nat.{ℕ}
 use mathlib.Core.Path.{_≡_, refl}
 use mathlib.Core.List.{List}
@@ -26,12 +27,14 @@ use Rattle.gorsetumble.proofs.texting.gorsetumble_quick_verdict as verd
 
 module _ {M : Type 1} (𝓤 : URA M) (H : Heap 𝓤) (A : Atoms 𝓤) (mem : Memory → SProp 𝓤) (run : Routine → Fun 𝓤) where
   pub verdict-says : (κs : Lfts 2) (p z p′ z′ : Text) (r : ℕ)
-      → verdict-fn.clauses 𝓤 H A mem run κs (p, (z, tt)) .ensures tt r (p′, (z′, tt)) ≡ fact 𝓤 (r ≡ verdict (now p) (now z))
+      → verdict-fn.clauses 𝓤 H A mem run κs (p, (z, tt)) .ensures tt r (p′, (z′, tt))
+      ≡ fact 𝓤 (r ≡ verdict (now p) (now z))
   verdict-says κs p z p′ z′ r = refl
 
   pub set-up-says : (κs : Lfts 3) (m left : RefT Machine) (p z p′ z′ : Text) (r : TextRefusal)
       → set-up-fn.clauses 𝓤 H A mem run κs (m, (p, (z, tt))) .ensures tt r (left, (p′, (z′, tt)))
-      ≡ fact 𝓤 ((r ≡ setUpTexts (now m) (now p) (now z) .refused) × (now left ≡ setUpTexts (now m) (now p) (now z) .machine))
+      ≡ fact 𝓤
+      ((r ≡ setUpTexts (now m) (now p) (now z) .refused) × (now left ≡ setUpTexts (now m) (now p) (now z) .machine))
   set-up-says κs m left p z p′ z′ r = refl
 
   pub tick-says : (κs : Lfts 1) (m left : RefT Machine) (x y x′ y′ : ℕ) (r : Answer)
@@ -45,5 +48,6 @@ pub set-up-contract : (m : Machine) (platform tasks : List ℕ) (r : TextRefusal
 set-up-contract m platform tasks r left h = rw (h .0, h .1)
 
 pub tick-contract : (m : Machine) (x y : ℕ) (r : Answer) (left : Machine)
-    → (r ≡ tick m x y .answer) × (left ≡ tick m x y .machine) → _≡_ {A = Ticked} (record { machine = left; answer = r }) (tick m x y)
+    → (r ≡ tick m x y .answer) × (left ≡ tick m x y .machine)
+    → _≡_ {A = Ticked} (record { machine = left; answer = r }) (tick m x y)
 tick-contract m x y r left h = rw (h .0, h .1)

@@ -1,4 +1,5 @@
--- What a caller learns by the contracts of the three functions is what `Calls` (promise/specs/Calls.antt) asks of the values that they return: each law below is the identity.
+-- What a caller learns by the contracts of the three functions is what `Calls` (promise/specs/Calls.antt) asks of the
+-- values that they return: each law below is the identity.
 use Prim.Native.Nat.{ℕ}
 use mathlib.Core.Path.{_≡_}
 use contract.Lifetimes.{Lfts}
@@ -14,7 +15,8 @@ use Rattle.machine.specs.Tick.{tick}
 use Rattle.machine.proofs.Machine.set_up.Reads as set-up
 use Rattle.lent.proofs.ticked.Reads as tick-fn
 
-pub quick-contract : (κs : Lfts 0) (t now : Table) (q : QuickAnswer) → quick.Learnt κs (t, tt) q (now, tt) → q ≡ quickAnswer t
+pub quick-contract : (κs : Lfts 0) (t now : Table) (q : QuickAnswer)
+    → quick.Learnt κs (t, tt) q (now, tt) → q ≡ quickAnswer t
 quick-contract κs t now q h = h
 
 pub set-up-contract : (κs : Lfts 0) (old was : Machine) (t now : Table) (r : SetUp)

@@ -1,5 +1,5 @@
--- Two outcomes that a public function's statement allows are equal: its result, and what lies behind a reference that it was lent. The statement of an
--- exported function that passes on is its callee's, and so is its line.
+-- Two outcomes that a public function's statement allows are equal: its result, and what lies behind a reference that
+-- it was lent. The statement of an exported function that passes on is its callee's, and so is its line.
 use Prim.Native.Nat.{ℕ}
 use mathlib.Core.Path.{_≡_}
 use mathlib.Core.List.{List}
@@ -22,7 +22,8 @@ module _ (p : Platform) (rows : List Task) where
   pub full-determined : (r s : FullAnswer) → r ≡ fullAnswer (tableOf p rows) → s ≡ fullAnswer (tableOf p rows) → r ≡ s
   full-determined = determined (fullAnswer (tableOf p rows))
 
-  pub quick-determined : (r s : QuickAnswer) → r ≡ quickAnswer (tableOf p rows) → s ≡ quickAnswer (tableOf p rows) → r ≡ s
+  pub quick-determined : (r s : QuickAnswer) → r ≡ quickAnswer (tableOf p rows)
+      → s ≡ quickAnswer (tableOf p rows) → r ≡ s
   quick-determined = determined (quickAnswer (tableOf p rows))
 
   pub set-up-determined : (m : Machine) (r s : Refusal) (a b : Machine)
@@ -30,10 +31,12 @@ module _ (p : Platform) (rows : List Task) where
       → (s ≡ setUp m (tableOf p rows) .refused) × (b ≡ setUp m (tableOf p rows) .machine) → (r ≡ s) × (a ≡ b)
   set-up-determined m = determined-both (setUp m (tableOf p rows) .refused) (setUp m (tableOf p rows) .machine)
 
-  pub set-up-from-determined : (m : Machine) (n : ℕ) (r s : SetUp) → r ≡ setUp m (tableOf p (take n rows)) → s ≡ setUp m (tableOf p (take n rows)) → r ≡ s
+  pub set-up-from-determined : (m : Machine) (n : ℕ) (r s : SetUp) → r ≡ setUp m (tableOf p (take n rows))
+      → s ≡ setUp m (tableOf p (take n rows)) → r ≡ s
   set-up-from-determined m n = determined (setUp m (tableOf p (take n rows)))
 
 pub set-up-texts-determined : (m : Machine) (platform tasks : List ℕ) (r s : TextRefusal) (a b : Machine)
     → (r ≡ setUpTexts m platform tasks .refused) × (a ≡ setUpTexts m platform tasks .machine)
     → (s ≡ setUpTexts m platform tasks .refused) × (b ≡ setUpTexts m platform tasks .machine) → (r ≡ s) × (a ≡ b)
-set-up-texts-determined m platform tasks = determined-both (setUpTexts m platform tasks .refused) (setUpTexts m platform tasks .machine)
+set-up-texts-determined m platform tasks =
+    determined-both (setUpTexts m platform tasks .refused) (setUpTexts m platform tasks .machine)

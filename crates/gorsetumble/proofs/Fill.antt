@@ -28,7 +28,8 @@ module _ (ys : List Task) where
 
   -- past the last row there is no task either way
   rows-end : after (length ys) ≡ tabulate mostTasks (λ k. entry ys k noTask)
-  rows-end = tabulate-ext (λ k. cond (leb k (length ys)) (entry ys k noTask) noTask) (λ k. entry ys k noTask) mostTasks at
+  rows-end =
+      tabulate-ext (λ k. cond (leb k (length ys)) (entry ys k noTask) noTask) (λ k. entry ys k noTask) mostTasks at
     where
       at : (j : ℕ) → j < mostTasks → cond (leb (suc j) (length ys)) (getD ys j noTask) noTask ≡ getD ys j noTask
       at j l =
@@ -40,4 +41,5 @@ module _ (ys : List Task) where
   pub at-last : (p : Platform) → withRows p (length ys) (after (min (length ys) mostTasks)) ≡ tableOf p ys
   at-last p =
       ap (withRows p (length ys))
-      (up-most mostTasks (λ k. entry ys k noTask) (λ k. noTask) (length ys) ∙ rows-end ∙ sym (padded-entries noTask mostTasks ys))
+      (up-most mostTasks (λ k. entry ys k noTask) (λ k. noTask) (length ys) ∙ rows-end
+      ∙ sym (padded-entries noTask mostTasks ys))

@@ -13,7 +13,8 @@ use prog.Wp.{Heap, Env, Calls, Loops}
 use ghost.Atoms.{Atoms, sem}
 use contract.Monad.{Fun, fact}
 use sound.WpLaws.{FmC}
-use types.Kit.{Given, Item, ‵, raw, _⊛_, Post, runs, lands, Seq, _$_, _∵_, !, qed, move, use1, split, join, fjoin, frame, done}
+use types.Kit.{Given, Item, ‵, raw, _⊛_, Post, runs, lands, Seq, _$_, _∵_, !, qed, move, use1, split, join, fjoin}
+use types.Kit.{frame, done}
 use types.Run.{Opds}
 use denote.Builtin.{u8}
 use denote.Ref.{RefT, ptr, now}
@@ -54,23 +55,35 @@ module _ {M : Type 1} (𝓤 : URA M) (H : Heap 𝓤) (A : Atoms 𝓤) (mem : Mem
   to-texts κ κ′ q q′ p z = (((κ, (κ′, tt)), (q, (q′, tt)), tt, (p, (z, tt)), (slice-vals p, (slice-vals z, tt))), tt)
 
   module _ (W : Given 𝓤 H A) (κ κ′ : Lft) (q q′ : Share) (p z : Text) where
-    said : (t : TextsRead) → ent 𝓤 (ensured 𝓤 H A read-texts.ended (read-texts.clauses 𝓤 H A mem run) (κ, (κ′, tt)) (p, (z, tt)) tt t) (fact 𝓤 (t ≡ textsRead (now p) (now z)))
-    said t = exE 𝓤 _ (λ ws. snd∗ 𝓤 (sem 𝓤 H A (lasts read-texts.ended (κ, (κ′, tt)) (p, (z, tt)) ws)) (fact 𝓤 (t ≡ textsRead (now p) (now z))))
+    said : (t : TextsRead) → ent 𝓤 (ensured 𝓤 H A read-texts.ended (read-texts.clauses 𝓤 H A mem run) (κ, (κ′, tt))
+        (p, (z, tt)) tt t) (fact 𝓤 (t ≡ textsRead (now p) (now z)))
+    said t = exE 𝓤 _ (λ ws. snd∗ 𝓤 (sem 𝓤 H A (lasts read-texts.ended (κ, (κ′, tt)) (p, (z, tt)) ws))
+        (fact 𝓤 (t ≡ textsRead (now p) (now z))))
 
-    goes : ent 𝓤 (sep 𝓤 (sep 𝓤 (sep 𝓤 (A .lft κ q) (A .lft κ′ q′)) (sem 𝓤 H A (text κ p))) (sem 𝓤 H A (text κ′ z))) (TextsOf .pre (to-texts κ κ′ q q′ p z))
+    goes : ent 𝓤 (sep 𝓤 (sep 𝓤 (sep 𝓤 (A .lft κ q) (A .lft κ′ q′)) (sem 𝓤 H A (text κ p))) (sem 𝓤 H A (text κ′ z)))
+        (TextsOf .pre (to-texts κ κ′ q q′ p z))
     goes =
-        qed W ((((‵ (flft κ q) ⊛ ‵ (flft κ′ q′)) ⊛ ‵ (text κ p)) ⊛ ‵ (text κ′ z)) ∷ []) ∵ split ! $ split ! $ split ! $ nothing ! $ move ! (4 ∷ 0 ∷ []) $ fjoin ! $ move ! (3 ∷ 0 ∷ []) $ fjoin ! $
+        qed W ((((‵ (flft κ q) ⊛ ‵ (flft κ′ q′)) ⊛ ‵ (text κ p)) ⊛ ‵ (text κ′ z)) ∷ []) ∵ split ! $ split ! $ split ! $
+        nothing ! $ move ! (4 ∷ 0 ∷ []) $ fjoin ! $ move ! (3 ∷ 0 ∷ []) $ fjoin ! $
         nothing ! $ move ! (3 ∷ 0 ∷ []) $ join ! $ move ! (2 ∷ 0 ∷ []) $ join ! $ join ! $ frame ! $ done !
 
-    module _ {K : Type 0} {Γ : List (Item 𝓤)} {E : Env 𝓤 H} {C : Calls 𝓤 H} {Λ : Loops 𝓤 H} {post : Post 𝓤 H} {f : Name} {xs : List Operand} {d : Place} {rest : Body} where
+    module _ {K : Type 0} {Γ : List (Item 𝓤)} {E : Env 𝓤 H} {C : Calls 𝓤 H} {Λ : Loops 𝓤 H} {post : Post 𝓤 H} {f : Name}
+        {xs : List Operand} {d : Place} {rest : Body} where
       pub calls-texts : K → FmC 𝓤 H (W .laws) C → Triple 𝓤 (C f) TextsOf
-          → Opds K W (raw (TextsOf .pre (to-texts κ κ′ q q′ p z)) ∷ ‵ (text κ p) ∷ ‵ (text κ′ z) ∷ Γ) E xs (sliceVal (ptr p) (length (now p)) ∷ slice-vals z)
-          → ((t : TextsRead) → t ≡ textsRead (now p) (now z) → Fits texts t → Seq K W (‵ (flft κ q) ∷ ‵ (flft κ′ q′) ∷ ‵ (text κ p) ∷ ‵ (text κ′ z) ∷ Γ) (lands C Λ E d (val texts t) rest post))
-          → Seq K W (‵ (flft κ q) ∷ ‵ (flft κ′ q′) ∷ ‵ (text κ p) ∷ ‵ (text κ′ z) ∷ Γ) (runs C Λ E (seq (call f xs d) rest) post)
+          → Opds K W (raw (TextsOf .pre (to-texts κ κ′ q q′ p z)) ∷ ‵ (text κ p) ∷ ‵ (text κ′ z) ∷ Γ) E xs
+          (sliceVal (ptr p) (length (now p)) ∷ slice-vals z)
+          → ((t : TextsRead) → t ≡ textsRead (now p) (now z) → Fits texts t → Seq K W
+          (‵ (flft κ q) ∷ ‵ (flft κ′ q′) ∷ ‵ (text κ p) ∷ ‵ (text κ′ z) ∷ Γ) (lands C Λ E d (val texts t) rest post))
+          → Seq K W (‵ (flft κ q) ∷ ‵ (flft κ′ q′) ∷ ‵ (text κ p) ∷ ‵ (text κ′ z) ∷ Γ)
+          (runs C Λ E (seq (call f xs d) rest) post)
       calls-texts t fm known os k =
-          move t (3 ∷ []) $ use1 W (‵ (text κ′ z) ⊛ ‵ (text κ′ z)) (shr-slice-copy 𝓤 H A W (named 0) κ′ u8 .twice z (slice-vals z)) $ split t $
-          move t (4 ∷ []) $ use1 W (‵ (text κ p) ⊛ ‵ (text κ p)) (shr-slice-copy 𝓤 H A W (named 0) κ u8 .twice p (slice-vals p)) $ split t $
+          move t (3 ∷ []) $ use1 W (‵ (text κ′ z) ⊛ ‵ (text κ′ z))
+          (shr-slice-copy 𝓤 H A W (named 0) κ′ u8 .twice z (slice-vals z)) $ split t $
+          move t (4 ∷ []) $ use1 W (‵ (text κ p) ⊛ ‵ (text κ p))
+          (shr-slice-copy 𝓤 H A W (named 0) κ u8 .twice p (slice-vals p)) $ split t $
           move t (4 ∷ 5 ∷ 0 ∷ 2 ∷ []) $ join t $ join t $ join t $
-          use1 W (raw (TextsOf .pre (to-texts κ κ′ q q′ p z))) goes $ calls-told t fm read-texts.ended (read-texts.clauses 𝓤 H A mem run) known (to-texts κ κ′ q q′ p z) (vals texts) (told texts) os (λ r fits.
+          use1 W (raw (TextsOf .pre (to-texts κ κ′ q q′ p z))) goes $ calls-told t fm read-texts.ended
+          (read-texts.clauses 𝓤 H A mem run) known (to-texts κ κ′ q q′ p z) (vals texts) (told texts) os (λ r fits.
           use1 W (raw (fact 𝓤 (r ≡ textsRead (now p) (now z)))) (said r) $ heard t (r ≡ textsRead (now p) (now z)) (λ e.
-          use1 W (‵ (flft κ q) ⊛ ‵ (flft κ′ q′)) (mono∗ 𝓤 (id⊢ 𝓤 (A .lft κ q)) (fst∗ 𝓤 (A .lft κ′ q′) (emp 𝓤))) $ split t $ k r e fits))
+          use1 W (‵ (flft κ q) ⊛ ‵ (flft κ′ q′)) (mono∗ 𝓤 (id⊢ 𝓤 (A .lft κ q)) (fst∗ 𝓤 (A .lft κ′ q′) (emp 𝓤))) $
+          split t $ k r e fits))

@@ -26,26 +26,33 @@ pub record LentDemand1 : Type 0 where
       → setUp m (tableOf p rows) .refused .number ≢ 0 → setUp m (tableOf p rows) .machine ≡ m
   -- One that is not leaves nothing of it: what stands there is of the new rows and platform alone.
   pub setUpForgets : (m other : Machine) (p : Platform) (rows : List Task)
-      → setUp m (tableOf p rows) .refused .number ≡ 0 → setUp m (tableOf p rows) .machine ≡ setUp other (tableOf p rows) .machine
+      → setUp m (tableOf p rows) .refused .number ≡ 0
+      → setUp m (tableOf p rows) .machine ≡ setUp other (tableOf p rows) .machine
   -- A stage above 2, of a task of the table or past it, is refused under 14.
-  pub noStage : (m : Machine) → length (m .table .rows) ≡ mostTasks → (i : ℕ) → i < mostTasks → 2 < job m (suc i) .stage .0
+  pub noStage : (m : Machine) → length (m .table .rows) ≡ mostTasks → (i : ℕ) → i < mostTasks
+      → 2 < job m (suc i) .stage .0
       → (released finished : ℕ) → tick m released finished .answer .refused ≡ record { number = 14; row = 0 }
   -- A tick that is refused leaves the machine as it was lent, and answers 0 for its sets.
   pub tickRefused : (m : Machine) (released finished : ℕ) → tick m released finished .answer .refused .number ≢ 0
-      → (tick m released finished .machine ≡ m) × (tick m released finished .answer ≡ refusedAnswer (tick m released finished .answer .refused))
+      → (tick m released finished .machine ≡ m)
+      × (tick m released finished .answer ≡ refusedAnswer (tick m released finished .answer .refused))
 
 pub record LentDemand2 : Type 0 where
   -- No row at all, and more rows than a table keeps, however many, earn refusal 1.
   pub none : (p : Platform) → refusal (tableOf p []) ≡ record { number = 1; row = 0 }
-  pub tooMany : (p : Platform) (rows : List Task) → mostTasks < length rows → refusal (tableOf p rows) ≡ record { number = 1; row = 0 }
-  pub agree : (p : Platform) (rows : List Task) → withoutMargins (fullAnswer (tableOf p rows)) ≡ quickAnswer (tableOf p rows)
+  pub tooMany : (p : Platform) (rows : List Task) → mostTasks < length rows
+      → refusal (tableOf p rows) ≡ record { number = 1; row = 0 }
+  pub agree : (p : Platform) (rows : List Task)
+      → withoutMargins (fullAnswer (tableOf p rows)) ≡ quickAnswer (tableOf p rows)
 
 -- the sequence of ticks of a machine that stands at m
 abbrev pub since : Machine → List Report → Sequence
 since m reports = record { first = m; ticks = steps m reports }
 
--- Where the quick answer on a lent row is "admitted", set-up from that row is not refused, whatever the machine was, and from there on
--- the machine keeps the promise, whatever it is told.
+-- Where the quick answer on a lent row is "admitted", set-up from that row is not refused, whatever the machine was,
+-- and from there on the machine keeps the promise, whatever it is told.
 abbrev pub LentDemand3 : Type 0
-LentDemand3 = (m : Machine) (p : Platform) (rows : List Task) → quickAnswer (tableOf p rows) .admitted ≡ true → (reports : List Report)
-    → (setUp m (tableOf p rows) .refused .number ≡ 0) × Kept (tableOf p rows) (since (setUp m (tableOf p rows) .machine) reports)
+LentDemand3 = (m : Machine) (p : Platform) (rows : List Task) → quickAnswer (tableOf p rows) .admitted ≡ true
+    → (reports : List Report)
+    → (setUp m (tableOf p rows) .refused .number ≡ 0)
+    × Kept (tableOf p rows) (since (setUp m (tableOf p rows) .machine) reports)

@@ -1,5 +1,5 @@
--- Set-up from two texts (document 01, "Texts" and "Numbers of refusals"): 15 with its offset and which text it is in, the platform being read
--- whole first; then 1 to 8 of the table that the texts give. A refusal leaves the old machine.
+-- Set-up from two texts (document 01, "Texts" and "Numbers of refusals"): 15 with its offset and which text it is in,
+-- the platform being read whole first; then 1 to 8 of the table that the texts give. A refusal leaves the old machine.
 use Prim.Native.Nat.{ℕ}
 use mathlib.Core.List.{List}
 use Rattle.forms.specs.Forms.{platformForm, tasksForm}

@@ -33,8 +33,8 @@ fn whole(platform: Platform, n: usize, rows: [Task; Table::MOST]) -> Table
     }
 }
 
-// The table of a lent row of task records: their whole count, and the first of them as far as a table goes. The rows are stored in place, one by one: a
-// table that is handed on by value at each would be copied at each.
+// The table of a lent row of task records: their whole count, and the first of them as far as a table goes. The rows
+// are stored in place, one by one: a table that is handed on by value at each would be copied at each.
 fn table_of(platform: Platform, rows: &[Task]) -> Table
     ensures { λ r. ⌜ r ≡ tableOf platform (now (rows .entry)) ⌝ }
 {
@@ -78,7 +78,8 @@ pub extern "C" fn gorsetumble_set_up(m: &mut Machine, platform: Platform, rows: 
 // One tick of the machine, in its place.
 #[no_mangle]
 pub extern "C" fn gorsetumble_tick(m: &mut Machine, released: u32, finished: u32) -> Answer
-    ensures { λ r. ⌜ (r ≡ tick (now (m .entry)) released finished .answer) × (now (m .exit) ≡ tick (now (m .entry)) released finished .machine) ⌝ }
+    ensures { λ r. ⌜ (r ≡ tick (now (m .entry)) released finished .answer)
+        × (now (m .exit) ≡ tick (now (m .entry)) released finished .machine) ⌝ }
 {
     lent::tick(m, released, finished)
 }

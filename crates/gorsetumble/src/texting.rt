@@ -1,4 +1,5 @@
-// Whole texts from C: the quick verdict, set-up, what the programs `admit` and `ticks` write of texts that are there, and the writers.
+// Whole texts from C: the quick verdict, set-up, what the programs `admit` and `ticks` write of texts that are there,
+// and the writers.
 ghost use mathlib.Core.Path.{_≡_};
 ghost use mathlib.Core.Bool.{true};
 ghost use Rattle.texts.specs.Admit.{admitText};
@@ -131,7 +132,8 @@ pub extern "C" fn gorsetumble_quick_verdict(platform: &[u8], tasks: &[u8]) -> u3
 
 #[no_mangle]
 pub extern "C" fn gorsetumble_admit(platform: &[u8], tasks: &[u8], out: &mut [u8]) -> Written
-    ensures { λ r. ⌜ Wrote (admitText true (now (platform .entry)) true (now (tasks .entry))) (now (out .entry)) r (now (out .exit)) ⌝ }
+    ensures { λ r. ⌜ Wrote (admitText true (now (platform .entry)) true (now (tasks .entry)))
+        (now (out .entry)) r (now (out .exit)) ⌝ }
 {
     texts::admit(true, platform, true, tasks, out)
 }
@@ -143,7 +145,8 @@ pub extern "C" fn gorsetumble_ticks(
     ticks: &[u8],
     out: &mut [u8],
 ) -> Written
-    ensures { λ r. ⌜ Wrote (ticksText true (now (platform .entry)) true (now (tasks .entry)) true (now (ticks .entry))) (now (out .entry)) r (now (out .exit)) ⌝ }
+    ensures { λ r. ⌜ Wrote (ticksText true (now (platform .entry)) true (now (tasks .entry)) true (now (ticks .entry)))
+        (now (out .entry)) r (now (out .exit)) ⌝ }
 {
     runs::ticks(true, platform, true, tasks, true, ticks, out)
 }
@@ -169,7 +172,8 @@ pub extern "C" fn gorsetumble_write_texts(
     platform: &mut [u8],
     tasks: &mut [u8],
 ) -> TextsWritten
-    ensures { λ r. ⌜ WroteBoth (platformText (table .platform)) (tasksText table) (now (platform .entry)) (now (tasks .entry)) r (now (platform .exit)) (now (tasks .exit)) ⌝ }
+    ensures { λ r. ⌜ WroteBoth (platformText (table .platform)) (tasksText table) (now (platform .entry))
+        (now (tasks .entry)) r (now (platform .exit)) (now (tasks .exit)) ⌝ }
 {
     writers::write_texts(table, platform, tasks)
 }

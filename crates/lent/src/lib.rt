@@ -1,4 +1,5 @@
-// A tick of a machine that the caller lends and gets moved on, and the same for a caller in Rattle, which can make no reference to a record.
+// A tick of a machine that the caller lends and gets moved on, and the same for a caller in Rattle, which can make no
+// reference to a record.
 ghost use mathlib.Core.Path.{_≡_};
 ghost use Rattle.machine.specs.Tick.{tick};
 use machine::Answer;
@@ -7,7 +8,8 @@ use machine::Ticked;
 
 // One tick of the machine, in its place.
 pub fn tick(m: &mut Machine, released: u32, finished: u32) -> Answer
-    ensures { λ r. ⌜ (r ≡ tick (now (m .entry)) released finished .answer) × (now (m .exit) ≡ tick (now (m .entry)) released finished .machine) ⌝ }
+    ensures { λ r. ⌜ (r ≡ tick (now (m .entry)) released finished .answer)
+        × (now (m .exit) ≡ tick (now (m .entry)) released finished .machine) ⌝ }
 {
     let s = ticking::tick(*m, released, finished);
     *m = s.machine;

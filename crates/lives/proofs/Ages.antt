@@ -1,4 +1,5 @@
--- What the theorem says in ticks: an age is the number of ticks since the release, so that a job starts less than its slack after it, and ends before its deadline.
+-- What the theorem says in ticks: an age is the number of ticks since the release, so that a job starts less than its
+-- slack after it, and ends before its deadline.
 use mathlib.Core.Path.{_≡_}
 use Prim.Native.Nat.{ℕ, zero, suc, _+_, _≤_, _<_}
 use native.Mathlib.Omega.{arith}
@@ -10,7 +11,8 @@ use Rattle.lives.proofs.Steps.{step}
 use Rattle.lives.proofs.OnTime.{waiting-age, running-age, young, counts}
 use Rattle.lives.proofs.InTime.{all-within, all-on-time}
 
-module _ {n : ℕ} {rows : ℕ → Row} {top : ℕ → ℕ} {style : Style n rows top} {x : ℕ → ℕ → Life} {N : ℕ} (c : Course style x N)
+module _ {n : ℕ} {rows : ℕ → Row} {top : ℕ → ℕ} {style : Style n rows top} {x : ℕ → ℕ → Life}
+    {N : ℕ} (c : Course style x N)
     (k : ℕ) (p : 1 ≤ k) (q : k ≤ n) (t : ℕ) where
   pub age-counts : (d : ℕ) → t + d ≤ N → Unfinished x k t d → age (x (t + d) k) ≡ d
   age-counts zero l job = rw add-zero (job .released)
@@ -21,17 +23,20 @@ module _ {n : ℕ} {rows : ℕ → Row} {top : ℕ → ℕ} {style : Style n row
       let more : age (x (suc (t + d)) k) ≡ suc (age (x (t + d) k)) =
       counts (rows k) (top k) (style .sound k p q) (style .held k p q)
       (step (all-within c (t + d) (omega arith) k p q) (c .next (t + d) (omega arith) k p q))
-      (all-within c (t + d) (omega arith) k p q) (all-on-time c (t + d) (omega arith) k p q) (job .since d (omega arith)) last in
+      (all-within c (t + d) (omega arith) k p q) (all-on-time c (t + d) (omega arith) k p q)
+      (job .since d (omega arith)) last in
       rw add-suc (omega arith)
 
   module _ (d : ℕ) (l : t + d ≤ N) (job : Unfinished x k t d) where
     -- A job that waits d ticks after its release can wait another, and be started before its slack is used up.
     pub waits-below-slack : waits (x (t + d) k) ≡ 1 → suc d < slack (rows k)
-    waits-below-slack w = omega (arith, age-counts d l job, waiting-age (rows k) (x (t + d) k) (all-on-time c (t + d) l k p q) w)
+    waits-below-slack w =
+        omega (arith, age-counts d l job, waiting-age (rows k) (x (t + d) k) (all-on-time c (t + d) l k p q) w)
 
     -- One that has run r ticks, d ticks after its release, was started before its slack was used up.
     pub runs-below-slack : runs (x (t + d) k) ≡ 1 → d < ran (x (t + d) k) + slack (rows k)
-    runs-below-slack w = omega (arith, age-counts d l job, running-age (rows k) (x (t + d) k) (all-on-time c (t + d) l k p q) w)
+    runs-below-slack w =
+        omega (arith, age-counts d l job, running-age (rows k) (x (t + d) k) (all-on-time c (t + d) l k p q) w)
 
     -- An unfinished job has a tick left to its deadline.
     pub ends-below-deadline : suc d < rows k .D
@@ -39,5 +44,6 @@ module _ {n : ℕ} {rows : ℕ → Row} {top : ℕ → ℕ} {style : Style n row
         omega (
           arith,
           age-counts d l job,
-          young (rows k) (x (t + d) k) (style .sound k p q) (all-within c (t + d) l k p q) (all-on-time c (t + d) l k p q) (job .since d (omega arith)),
+          young (rows k) (x (t + d) k) (style .sound k p q) (all-within c (t + d) l k p q)
+              (all-on-time c (t + d) l k p q) (job .since d (omega arith)),
         )

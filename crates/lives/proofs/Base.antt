@@ -1,4 +1,5 @@
--- The base's style: each task is charged the report's interference, k too, whoever starts. Which states are full, and by which weights the test is passed, is left open.
+-- The base's style: each task is charged the report's interference, k too, whoever starts. Which states are full, and
+-- by which weights the test is passed, is left open.
 use Prim.Native.Nat.{ℕ, _≤_}
 use Rattle.maths.specs.Tasks.{Each}
 use Rattle.lives.specs.Report.{Row, slack, interferenceOf}
@@ -19,8 +20,10 @@ base {n} {rows} {top} {IsFull} sound held test =
       charge = interferenceOf rows;
       charged =
           λ k p q y window i u m.
-          equation-3 (rows i) (top i) (sound i u m) (λ e. y e i) (slack (rows k)) (window .within i u m) (window .next i u m);
+          equation-3 (rows i) (top i) (sound i u m) (λ e. y e i) (slack (rows k))
+          (window .within i u m) (window .next i u m);
       passed =
           λ k p q r once few full.
-          not-all-full n (test .scale k) (test .weight k) (test .heavy k p q) r once (slack (rows k)) (interferenceOf rows k) few (test .light k p q) full;
+          not-all-full n (test .scale k) (test .weight k) (test .heavy k p q) r once (slack (rows k))
+          (interferenceOf rows k) few (test .light k p q) full;
     }

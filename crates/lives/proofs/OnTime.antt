@@ -1,11 +1,14 @@
--- What follows for one life from being on time, with no other task in sight: it stays in time, its job is never late, and no release finds it unfinished.
+-- What follows for one life from being on time, with no other task in sight: it stays in time, its job is never late,
+-- and no release finds it unfinished.
 use mathlib.Core.Path.{_≡_, refl}
 use mathlib.Core.Bool.{Bool, true, false}
 use Prim.Native.Nat.{ℕ, suc, _+_, _≤_, _<_}
 use native.Mathlib.Omega.{arith}
 use Rattle.lives.specs.Report.{Row, slack}
-use Rattle.lives.specs.Life.{Sound, Life, idle, waiting, running, age, ran, idles, waits, runs, rise, finish, WithinC, InTime, OnTime}
-use Rattle.lives.proofs.Steps.{Step, still-idle, released, released-started, still-waiting, started, still-running, finished, finished-released, finished-released-started}
+use Rattle.lives.specs.Life.{Sound, Life, idle, waiting, running, age, ran, idles, waits, runs, rise, finish}
+use Rattle.lives.specs.Life.{WithinC, InTime, OnTime}
+use Rattle.lives.proofs.Steps.{Step, still-idle, released, released-started, still-waiting, started}
+use Rattle.lives.proofs.Steps.{still-running, finished, finished-released, finished-released-started}
 
 -- On time, but that a waiting job may be about to use up its slack.
 abbrev pub Soon : Row → Life → Type 0
@@ -67,14 +70,16 @@ module _ (row : Row) (top : ℕ) (v : Sound row) where
   not-late x g o w = omega (arith, young row x v g o w, rise-le top x)
 
   -- A task of which step 1 makes the age T or more has no unfinished job: refusal 12 or 11 is given before 13.
-  pub never-13 : (x : Life) (f : Bool) → WithinC row x → OnTime row x → row .T ≤ age (rise top x) → idles (finish f (rise top x)) ≡ 1
+  pub never-13 : (x : Life) (f : Bool) → WithinC row x → OnTime row x → row .T ≤ age (rise top x)
+      → idles (finish f (rise top x)) ≡ 1
   never-13 (idle a) false g o l = refl
   never-13 (idle a) true g o l = refl
   never-13 (waiting a) f g o l = absurd (omega arith)
   never-13 (running a r) f g o l = absurd (omega arith)
 
   -- From one state with a job to the next, the age counts the tick: the hold never bites, and the job is the same.
-  pub counts : {x y : Life} → row .T ≤ top → Step row top x y → WithinC row x → OnTime row x → idles x ≡ 0 → idles y ≡ 0 → age y ≡ suc (age x)
+  pub counts : {x y : Life} → row .T ≤ top → Step row top x y → WithinC row x → OnTime row x → idles x ≡ 0
+      → idles y ≡ 0 → age y ≡ suc (age x)
   counts h still-idle g o p q = absurd (omega arith)
   counts h (released e) g o p q = absurd (omega arith)
   counts h (released-started e) g o p q = absurd (omega arith)

@@ -1,10 +1,12 @@
--- One tick, by cases: its nine outcomes for a task, what the window bounds need of each, and that a job that has run less than C ticks stays so.
+-- One tick, by cases: its nine outcomes for a task, what the window bounds need of each, and that a job that has run
+-- less than C ticks stays so.
 use mathlib.Core.Path.{_≡_, refl, subst}
 use mathlib.Core.Bool.{Bool, true, false}
 use Prim.Native.Nat.{ℕ, suc, _+_, _-_, _≤_, _<_, min}
 use native.Mathlib.Omega.{arith}
 use Rattle.lives.specs.Report.{Row}
-use Rattle.lives.specs.Life.{Sound, Life, idle, waiting, running, age, runs, up, rise, finish, release, start, Allowed, Next, WithinC}
+use Rattle.lives.specs.Life.{Sound, Life, idle, waiting, running, age, runs, up, rise, finish, release, start}
+use Rattle.lives.specs.Life.{Allowed, Next, WithinC}
 
 -- The nine outcomes.
 pub data Step (row : Row) (top : ℕ) : Life → Life → Type 0 where
@@ -38,7 +40,8 @@ by-bits row top (running a n) true true false g h = finished-released {a = a} (o
 by-bits row top (running a n) true true true g h = finished-released-started {a = a} (omega (arith, h .due refl))
 
 pub step : {row : Row} {top : ℕ} {x y : Life} → WithinC row x → Next row top x y → Step row top x y
-step {row} {top} {x} {y} g h = subst (Step row top x) (h .lands) (by-bits row top x (h .finished) (h .released) (h .started) g (h .allowed))
+step {row} {top} {x} {y} g h =
+    subst (Step row top x) (h .lands) (by-bits row top x (h .finished) (h .released) (h .started) g (h .allowed))
 
 -- The ticks that the job can still run after this state.
 abbrev pub rest : Row → Life → ℕ
@@ -50,7 +53,8 @@ rest row (running a r) = row .C - suc r
 abbrev pub aged : Row → Life → ℕ
 aged row x = min (age x) (row .T)
 
--- All that the window bounds need of a tick: without a release no work is added; with one C is, and T ticks have passed since the last release.
+-- All that the window bounds need of a tick: without a release no work is added; with one C is, and T ticks have passed
+-- since the last release.
 pub data Facts (row : Row) (x y : Life) : Type 0 where
   same : runs y + rest row y ≤ rest row x → aged row y ≤ suc (aged row x) → Facts row x y
   new : runs y + rest row y ≤ rest row x + row .C → age y ≡ 0 → row .T ≤ suc (aged row x) → Facts row x y

@@ -1,5 +1,5 @@
--- Many tasks, no time. S states that weigh `scale` each need more running than a test that is passed allows; and by the weights of theorem 2 a state in which M tasks run,
--- or tasks that ask for B partitions, weighs M * B.
+-- Many tasks, no time. S states that weigh `scale` each need more running than a test that is passed allows; and by the
+-- weights of theorem 2 a state in which M tasks run, or tasks that ask for B partitions, weighs M * B.
 use Prim.Native.Nat.{ℕ, _*_, _≤_, _<_}
 use native.Mathlib.Omega.{arith}
 use native.Mathlib.Nat.{mul-le-mul-right, mul-le-mul-left, le-max-left, le-max-right}
@@ -23,8 +23,10 @@ module _ (n scale : ℕ) (w : ℕ → ℕ) {IsFull : (ℕ → ℕ) → Type 0} (
         sum-mono (λ e. scale) (λ e. Σ n (λ i. f i e)) S (λ e l. heavy (r e) (once e) (full e l)),
       ))
 
-  -- Where task i runs in I i of S states at the most, and these weigh less than so many full states, some state is not full.
-  pub not-all-full : (I : ℕ → ℕ) → Each n (λ i. sum (λ e. r e i) S ≤ I i) → Light n scale w I S → ((e : ℕ) → e < S → IsFull (r e)) → ⊥
+  -- Where task i runs in I i of S states at the most, and these weigh less than so many full states, some state is not
+  -- full.
+  pub not-all-full : (I : ℕ → ℕ) → Each n (λ i. sum (λ e. r e i) S ≤ I i) → Light n scale w I S
+      → ((e : ℕ) → e < S → IsFull (r e)) → ⊥
   not-all-full I few light full =
       omega (
         arith,
@@ -51,5 +53,6 @@ module _ (n M B : ℕ) (A : ℕ → ℕ) where
         arith,
         mul-le-mul-left M h,
         Σ-mul n M (λ i. A i * r i),
-        Σ-mono n (λ i. M * (A i * r i)) (λ i. w i * r i) (λ i l m. omega (arith, mul-le-mul-right (r i) (le-max-right B (M * A i)))),
+        Σ-mono n (λ i. M * (A i * r i)) (λ i. w i * r i)
+            (λ i l m. omega (arith, mul-le-mul-right (r i) (le-max-right B (M * A i)))),
       )

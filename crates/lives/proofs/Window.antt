@@ -7,8 +7,8 @@ use Rattle.lives.specs.Report.{Row, equation3}
 use Rattle.lives.specs.Life.{Sound, Life, idle, waiting, running, runs, count, InRow, WithinC}
 use Rattle.lives.proofs.Steps.{step, Facts, same, new, facts, rest, aged, stays-within}
 
--- What n + 1 states, of which `run` run and the last is y, have shown. `A` bounds the carry-in, the work of the job that the first state has, and `Z`
--- how long after its release that work can end.
+-- What n + 1 states, of which `run` run and the last is y, have shown. `A` bounds the carry-in, the work of the job
+-- that the first state has, and `Z` how long after its release that work can end.
 pub record Seen (row : Row) (A Z n run : ℕ) (y : Life) : Type 0 where
   pub releases : ℕ
   pub work : run + rest row y ≤ A + releases * row .C
@@ -21,7 +21,8 @@ runs-le (waiting a) = omega arith
 runs-le (running a r) = omega arith
 
 -- one tick more
-advance : {row : Row} {A Z n run : ℕ} {x y : Life} → Facts row x y → Seen row A Z n run x → Seen row A Z (suc n) (run + runs y) y
+advance : {row : Row} {A Z n run : ℕ} {x y : Life} → Facts row x y → Seen row A Z n run x
+    → Seen row A Z (suc n) (run + runs y) y
 advance {y = y} (same w a) s =
     record { releases = s .releases; work = omega arith; spread = omega (arith, runs-le y); apart = omega arith }
 advance {y = y} (new w a t) s =

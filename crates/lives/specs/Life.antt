@@ -1,5 +1,5 @@
--- One task alone: its life (idle, waiting or running; its age; how long its job has run), and what one accepted tick may do to
--- that life. This is "One tick" of document 01 with refusals 10 to 13, read for a single task.
+-- One task alone: its life (idle, waiting or running; its age; how long its job has run), and what one accepted tick
+-- may do to that life. This is "One tick" of document 01 with refusals 10 to 13, read for a single task.
 use mathlib.Core.Path.{_≡_}
 use mathlib.Core.Logic.{_≢_}
 use mathlib.Core.Bool.{Bool, true, false, cond}
@@ -110,7 +110,8 @@ InTime row (idle a) = Unit {0}
 InTime row (waiting a) = a ≤ slack row
 InTime row (running a r) = a ≤ r + slack row
 
--- What the theorem promises of each life: a waiting job can wait another tick and be started before its slack is used up; a running one was.
+-- What the theorem promises of each life: a waiting job can wait another tick and be started before its slack is used
+-- up; a running one was.
 abbrev pub OnTime : Row → Life → Type 0
 OnTime row (idle a) = Unit {0}
 OnTime row (waiting a) = suc a < slack row

@@ -1,5 +1,6 @@
--- The second test of the report (theorem 2, equation 9) with the interference of its equation 3, of numbers alone, multiplied by M × B so that no
--- fraction is left. The answers of crate `admission` are defined by it, and the theory of this crate proves it sound: another test is a change of this file.
+-- The second test of the report (theorem 2, equation 9) with the interference of its equation 3, of numbers alone,
+-- multiplied by M × B so that no fraction is left. The answers of crate `admission` are defined by it, and the theory
+-- of this crate proves it sound: another test is a change of this file.
 use Prim.Native.Nat.{ℕ, _+_, _-_, _*_, _/_, max}
 use Rattle.maths.specs.Sums.{Σ}
 

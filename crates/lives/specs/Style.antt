@@ -1,14 +1,19 @@
--- What a style of scheduling supplies, and the course of a machine under it. A state gives each task its life; state t is the one after t accepted ticks.
--- Nothing here says how a style chooses whom to start: the report's proofs of its tests, for whichever style, need no more.
+-- What a style of scheduling supplies, and the course of a machine under it. A state gives each task its life; state t
+-- is the one after t accepted ticks.
+-- Nothing here says how a style chooses whom to start: the report's proofs of its tests, for whichever style, need no
+-- more.
 use mathlib.Core.Path.{_≡_}
 use Prim.Native.Nat.{ℕ, suc, _+_, _≤_, _<_}
 use Rattle.maths.specs.Sums.{sum}
 use Rattle.maths.specs.Tasks.{Each}
 use Rattle.lives.specs.Report.{Row, slack}
-use Rattle.lives.specs.Life.{Sound, Life, idle, waiting, age, idles, waits, runs, count, Next, InRow, WithinC, InTime}
+use Rattle.lives.specs.Life.{Sound, Life, idle, waiting, age, idles, waits, runs, count, Next, InRow, WithinC}
+use Rattle.lives.specs.Life.{InTime}
 
--- The report's problem window of task k: S states y 0, y 1, .. from the one that k's job is released in, in all of which that job waits.
-pub record Problem (n : ℕ) (rows : ℕ → Row) (top : ℕ → ℕ) (Starts : ℕ → (ℕ → Life) → Type 0) (k : ℕ) (y : ℕ → ℕ → Life) : Type 0 where
+-- The report's problem window of task k: S states y 0, y 1, .. from the one that k's job is released in, in all of
+-- which that job waits.
+pub record Problem (n : ℕ) (rows : ℕ → Row) (top : ℕ → ℕ) (Starts : ℕ → (ℕ → Life) → Type 0) (k : ℕ)
+    (y : ℕ → ℕ → Life) : Type 0 where
   pub waited : (e : ℕ) → e < slack (rows k) → y e k ≡ waiting e
   pub starts : (e : ℕ) → e < slack (rows k) → Starts k (y e)
   pub next : Each n (λ i. InRow (rows i) (top i) (λ e. y e i) (slack (rows k)))
@@ -26,13 +31,17 @@ pub record Style (n : ℕ) (rows : ℕ → Row) (top : ℕ → ℕ) : Type 1 whe
   pub Starts : ℕ → (ℕ → Life) → Type 0
   -- I of the report: how many states of k's problem window task i can run in
   pub charge : ℕ → ℕ → ℕ
-  pub charged : Each n (λ k. (y : ℕ → ℕ → Life) → Problem n rows top Starts k y → Each n (λ i. count (λ e. y e i) (slack (rows k)) ≤ charge k i))
-  -- the test: tasks that run (1 or 0 each) in no more states than they are charged for leave one of S states that is not full
-  pub passed : Each n (λ k. (r : ℕ → ℕ → ℕ) → ((e : ℕ) → Each n (λ i. r e i ≤ 1)) → Each n (λ i. sum (λ e. r e i) (slack (rows k)) ≤ charge k i)
+  pub charged : Each n (λ k. (y : ℕ → ℕ → Life) → Problem n rows top Starts k y
+      → Each n (λ i. count (λ e. y e i) (slack (rows k)) ≤ charge k i))
+  -- the test: tasks that run (1 or 0 each) in no more states than they are charged for leave one of S states that is
+  -- not full
+  pub passed : Each n (λ k. (r : ℕ → ℕ → ℕ) → ((e : ℕ) → Each n (λ i. r e i ≤ 1))
+      → Each n (λ i. sum (λ e. r e i) (slack (rows k)) ≤ charge k i)
       → ((e : ℕ) → e < slack (rows k) → Full k (r e)) → ⊥)
 
 -- States x 0 to x N, the first one fresh, each other one after a tick of the style.
-pub record Course {n : ℕ} {rows : ℕ → Row} {top : ℕ → ℕ} (style : Style n rows top) (x : ℕ → ℕ → Life) (N : ℕ) : Type 0 where
+pub record Course {n : ℕ} {rows : ℕ → Row} {top : ℕ → ℕ} (style : Style n rows top)
+    (x : ℕ → ℕ → Life) (N : ℕ) : Type 0 where
   pub fresh : Each n (λ i. x 0 i ≡ idle (rows i .T))
   pub next : (t : ℕ) → t < N → Each n (λ i. Next (rows i) (top i) (x t i) (x (suc t) i))
   pub full : (t : ℕ) → t < N → Each n (λ k. waits (x (suc t) k) ≡ 1 → style .Full k (λ i. runs (x (suc t) i)))

@@ -1,10 +1,12 @@
--- What lemma 1 of the report says of a state in which a task waits, what such a state weighs, and a test by weights: the proof of the second test without time.
+-- What lemma 1 of the report says of a state in which a task waits, what such a state weighs, and a test by weights:
+-- the proof of the second test without time.
 use Prim.Native.Nat.{ℕ, _*_, _≤_, _<_}
 use Rattle.maths.specs.Sums.{Σ}
 use Rattle.maths.specs.Tasks.{Each}
 use Rattle.lives.specs.Report.{Row, slack, interferenceOf}
 
--- Of n tasks, of which i asks for A i partitions and runs r i times (1 or 0), all M cores are busy, or B partitions are.
+-- Of n tasks, of which i asks for A i partitions and runs r i times (1 or 0), all M cores are busy, or B partitions
+-- are.
 pub data Full (n M B : ℕ) (A r : ℕ → ℕ) : Type 0 where
   busyCores : M ≤ Σ n r → Full n M B A r
   busyCache : B ≤ Σ n (λ i. A i * r i) → Full n M B A r

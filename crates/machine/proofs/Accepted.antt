@@ -25,7 +25,8 @@ pub record Before13 (m : Machine) (released finished : ℕ) : Type 0 where
   pub good : goodState m ≡ true
   pub inTable : Each mostTasks (λ k. hasTask released k ≡ true → k ≤ m .table .n)
   pub ran : Each mostTasks (λ k. hasTask finished k ≡ true → runs m k ≡ true)
-  pub over : Each mostTasks (λ k. runs m k ≡ true → hasTask finished k ≡ false → job (passed m) k .ran ≢ C (τ (m .table) k))
+  pub over : Each mostTasks
+      (λ k. runs m k ≡ true → hasTask finished k ≡ false → job (passed m) k .ran ≢ C (τ (m .table) k))
   pub due : Each mostTasks (λ k. hasTask released k ≡ true → T (τ (m .table) k) ≤ job (passed m) k .age)
 
 -- nor 13
@@ -45,7 +46,8 @@ later r rs n h e = by (eqb (lowest mostTasks (r .given)) 0) refl e
     by true z q = (eqb-true _ 0 z, q)
     by false z q = absurd (h q)
 
-pub passed-over : (r : Rule ℕ) (rs : List (Rule ℕ)) → lowest mostTasks (r .given) ≡ 0 → firstGiven (r ∷ rs) ≡ firstGiven rs
+pub passed-over : (r : Rule ℕ) (rs : List (Rule ℕ)) → lowest mostTasks (r .given) ≡ 0
+    → firstGiven (r ∷ rs) ≡ firstGiven rs
 unfolding firstGiven
 passed-over r rs e = rw e
 
@@ -102,7 +104,8 @@ module _ (m : Machine) (R F : ℕ) where
   unfolding tickRefusal tickRules
   tried n other e = by (goodState m) refl e
     where
-      by : (b : Bool) → goodState m ≡ b → cond b (firstGiven (tickRules m R F)) (record { number = 14; row = 0 }) .number ≡ n → Tried n
+      by : (b : Bool) → goodState m ≡ b
+          → cond b (firstGiven (tickRules m R F)) (record { number = 14; row = 0 }) .number ≡ n → Tried n
       by true g q =
           let r9 = later _ _ n (omega arith) q in
           let r10 = later _ _ n (omega arith) (r9 .1) in
@@ -130,7 +133,8 @@ module _ (m : Machine) (R F : ℕ) where
       }
 
   -- 13 is not given where each released task is idle after step 2
-  pub never-13 : (Before13 m R F → Each mostTasks (λ k. hasTask R k ≡ true → idles (finish F (passed m)) k ≡ true)) → tickRefusal m R F .number ≢ 13
+  pub never-13 : (Before13 m R F → Each mostTasks (λ k. hasTask R k ≡ true → idles (finish F (passed m)) k ≡ true))
+      → tickRefusal m R F .number ≢ 13
   never-13 idle e =
       let all = tried 13 (omega arith) e in
       let over = passed-over (rule13 m R F) [] (none-of _ (λ k l h. fails _ _ (idle (all .before) k l h))) in

@@ -42,7 +42,8 @@ module _ (f : ℕ → Job → Job) (m : Machine) where
   unfolding forTasks
   for-length = length-tabulate _ mostTasks
 
-  for-job : (i : ℕ) → i < mostTasks → job (forTasks f m) (suc i) ≡ cond (leb (suc i) (m .table .n)) (f (suc i) (job m (suc i))) (job m (suc i))
+  for-job : (i : ℕ) → i < mostTasks
+      → job (forTasks f m) (suc i) ≡ cond (leb (suc i) (m .table .n)) (f (suc i) (job m (suc i))) (job m (suc i))
   unfolding forTasks
   for-job i l = getD-tabulate _ mostTasks i noJob l
 
@@ -69,7 +70,8 @@ for-for f g m =
         → job (forTasks f (forTasks g m)) (suc i) ≡ job (forTasks (λ k j. f k (g k j)) m) (suc i)
     by i l (yes n) =
         for-task f (forTasks g m) (suc i) (omega arith) (rw (for-table g m) n) l
-        ∙ (ap (f (suc i)) (for-task g m (suc i) (omega arith) n l) ∙ sym (for-task (λ k j. f k (g k j)) m (suc i) (omega arith) n l))
+        ∙ (ap (f (suc i)) (for-task g m (suc i) (omega arith) n l)
+        ∙ sym (for-task (λ k j. f k (g k j)) m (suc i) (omega arith) n l))
     by i l (no n) =
         for-past f (forTasks g m) (suc i) (rw (for-table g m) (omega arith)) l
         ∙ (for-past g m (suc i) (omega arith) l ∙ sym (for-past (λ k j. f k (g k j)) m (suc i) (omega arith) l))
@@ -80,22 +82,26 @@ pub finished-pass : (m : Machine) (finished : ℕ)
 finished-pass m finished = for-for (λ k j. cond (hasTask finished k) (ended j) j) (λ k. older (τ (m .table) k)) m
 
 pub readied-pass : (m : Machine) (released finished : ℕ)
-    → readied m released finished ≡ forTasks (λ k. readiedJob (τ (m .table) k) (hasTask released k) (hasTask finished k)) m
+    → readied m released finished
+    ≡ forTasks (λ k. readiedJob (τ (m .table) k) (hasTask released k) (hasTask finished k)) m
 readied-pass m released finished =
     ap (release released) (finished-pass m finished)
-    ∙ for-for (λ k j. cond (hasTask released k) (awaiting j) j) (λ k. finishedJob (τ (m .table) k) (hasTask finished k)) m
+    ∙ for-for (λ k j. cond (hasTask released k) (awaiting j) j)
+    (λ k. finishedJob (τ (m .table) k) (hasTask finished k)) m
 
 module _ (m : Machine) (k : ℕ) (one : 1 ≤ k) (in-n : k ≤ m .table .n) (few : k ≤ mostTasks) where
   pub passed-job : job (passed m) k ≡ older (τ (m .table) k) (job m k)
   passed-job = for-task (λ k. older (τ (m .table) k)) m k one in-n few
 
-  pub finished-job : (finished : ℕ) → job (finish finished (passed m)) k ≡ finishedJob (τ (m .table) k) (hasTask finished k) (job m k)
+  pub finished-job : (finished : ℕ)
+      → job (finish finished (passed m)) k ≡ finishedJob (τ (m .table) k) (hasTask finished k) (job m k)
   finished-job finished =
       ap (λ (z : Machine). job z k) (finished-pass m finished)
       ∙ for-task (λ k. finishedJob (τ (m .table) k) (hasTask finished k)) m k one in-n few
 
   pub readied-job : (released finished : ℕ)
-      → job (readied m released finished) k ≡ readiedJob (τ (m .table) k) (hasTask released k) (hasTask finished k) (job m k)
+      → job (readied m released finished) k
+      ≡ readiedJob (τ (m .table) k) (hasTask released k) (hasTask finished k) (job m k)
   readied-job released finished =
       ap (λ (z : Machine). job z k) (readied-pass m released finished)
       ∙ for-task (λ k. readiedJob (τ (m .table) k) (hasTask released k) (hasTask finished k)) m k one in-n few
@@ -108,7 +114,8 @@ module _ (m : Machine) (released finished : ℕ) where
   finished-table = for-table (λ k j. cond (hasTask finished k) (ended j) j) (passed m) ∙ passed-table
 
   pub readied-table : readied m released finished .table ≡ m .table
-  readied-table = for-table (λ k j. cond (hasTask released k) (awaiting j) j) (finish finished (passed m)) ∙ finished-table
+  readied-table =
+      for-table (λ k j. cond (hasTask released k) (awaiting j) j) (finish finished (passed m)) ∙ finished-table
 
 -- a start changes one job
 module _ (m : Machine) (i : ℕ) where

@@ -1,5 +1,5 @@
--- Laws of steps 2 and 5 on which the pass of the code and the theorem about sequences stand: who finishes holds nothing, who is picked, what a
--- start changes, and that the step ends only where nobody is picked.
+-- Laws of steps 2 and 5 on which the pass of the code and the theorem about sequences stand: who finishes holds
+-- nothing, who is picked, what a start changes, and that the step ends only where nobody is picked.
 use Prim.Native.Nat.{ℕ, zero, suc, _+_, _-_, _<_, _≤_}
 use mathlib.Core.Path.{_≡_, refl, sym, _∙_, ap}
 use mathlib.Core.Bool.{Bool, true, false, cond, _&&_, true≢false}
@@ -20,8 +20,10 @@ use Rattle.sets.proofs.Same.{without-both}
 use Rattle.machine.specs.declared.Job.{Job}
 use Rattle.machine.specs.declared.Machine.{Machine}
 use Rattle.machine.specs.declared.Stage.{Stage}
-use Rattle.machine.specs.Jobs.{Running, isWaiting, isRunning, noJob, job, waits, waiting, running, busy, idleSet, idleCores, idlePartitions}
-use Rattle.machine.specs.Steps.{ended, firstWaiting, fits, pick, begun, start, startPicked, startWaiting, startAll}
+use Rattle.machine.specs.Jobs.{Running, isWaiting, isRunning, noJob, job, waits, waiting, running, busy, idleSet}
+use Rattle.machine.specs.Jobs.{idleCores, idlePartitions}
+use Rattle.machine.specs.Steps.{ended, firstWaiting, fits, pick, begun, start, startPicked, startWaiting}
+use Rattle.machine.specs.Steps.{startAll}
 use Rattle.machine.proofs.Jobs.{start-same, start-other}
 use Rattle.machine.proofs.StateParts.{Rests, waits-not-runs}
 
@@ -29,7 +31,8 @@ use Rattle.machine.proofs.StateParts.{Rests, waits-not-runs}
 pub ended-rests : (j : Job) → Rests (ended j)
 ended-rests j = record { none = refl; unrun = refl }
 
--- the first that waits: where there is none, nobody waits; else it is one of tasks 1 to n, it waits, and none before it does
+-- the first that waits: where there is none, nobody waits; else it is one of tasks 1 to n, it waits, and none before it
+-- does
 pub first-none : (m : Machine) → firstWaiting m ≡ 0 → (k : ℕ) → k < m .table .n → waits m (suc k) ≡ false
 first-none m e = lowest-none (waits m) (m .table .n) e
 
@@ -44,14 +47,16 @@ module _ (m : Machine) (i : ℕ) (first : firstWaiting m ≡ suc i) where
   first-lowest k l = lowest-first (waits m) (m .table .n) i first k l
 
 -- what fits, in the words of document 01: fewer than M jobs run and at least A partitions are idle
-pub fits-is : (m : Machine) (k : ℕ) → fits m k ≡ (ltb (running m) (M (m .table)) && leb (A (τ (m .table) k)) (idlePartitions m .0))
+pub fits-is : (m : Machine) (k : ℕ)
+    → fits m k ≡ (ltb (running m) (M (m .table)) && leb (A (τ (m .table) k)) (idlePartitions m .0))
 fits-is m k = ap (λ (b : Bool). b && leb (A (τ (m .table) k)) (idlePartitions m .0)) core
   where
     core : leb 1 (idleCores m .0) ≡ ltb (running m) (M (m .table))
     core =
         elim (decLt (running m) (M (m .table))) [
           | yes l ↦ rw (lt-ltb (running m) (M (m .table)) l) (le-leb 1 (M (m .table) - running m) (omega arith))
-          | no l ↦ rw (le-ltb (running m) (M (m .table)) (omega arith)) (lt-leb 1 (M (m .table) - running m) (omega arith))
+          | no l ↦ rw (le-ltb (running m) (M (m .table)) (omega arith))
+              (lt-leb 1 (M (m .table) - running m) (omega arith))
         ]
 
 -- the first that waits is picked if it fits, and else nobody is
@@ -68,7 +73,8 @@ picks-none m e = pick-first m 0 e ∙ by (fits m 0)
 pub picks-first : (m : Machine) (i : ℕ) → pick m ≡ suc i → (firstWaiting m ≡ suc i) × (fits m (suc i) ≡ true)
 picks-first m i e = by (fits m (firstWaiting m)) refl e
   where
-    by : (b : Bool) → fits m (firstWaiting m) ≡ b → cond b (firstWaiting m) 0 ≡ suc i → (firstWaiting m ≡ suc i) × (fits m (suc i) ≡ true)
+    by : (b : Bool) → fits m (firstWaiting m) ≡ b → cond b (firstWaiting m) 0 ≡ suc i
+        → (firstWaiting m ≡ suc i) × (fits m (suc i) ≡ true)
     by true f q = (q, ap (fits m) (sym q) ∙ f)
     by false f q = absurd (omega (arith, q))
 
@@ -108,7 +114,8 @@ module _ (m : Machine) (i : ℕ) (w : waits m (suc i) ≡ true) where
         ≡ Σ (m .table .n) (λ k. cond (f (job m k .stage)) 1 0) + cond (f Running) 1 0
     counted f =
         let one : Job → ℕ = λ j. cond (f (j .stage)) 1 0 in
-        sum-but (λ j. one (job m (suc j))) (λ j. one (job (start m i) (suc j))) (m .table .n) i l (λ j h e. ap one (start-other m i j e))
+        sum-but (λ j. one (job m (suc j))) (λ j. one (job (start m i) (suc j))) (m .table .n) i l
+        (λ j h e. ap one (start-other m i j e))
         ∙ ap (λ (z : ℕ). Σ (m .table .n) (λ k. one (job m k)) + z) (ap one new-job)
 
     pub fewer-wait : waiting (start m i) + 1 ≡ waiting m
@@ -143,7 +150,8 @@ module _ (Q : Machine → Type 0) (keeps : (m : Machine) (i : ℕ) → pick m �
   step-keeps zero m q = rw (start-none m) q
   step-keeps (suc turns) m q = rw (start-turn turns m) (by (pick m) refl (step-keeps turns))
     where
-      by : (k : ℕ) → pick m ≡ k → ((next : Machine) → Q next → Q (startWaiting turns next)) → Q (startPicked (startWaiting turns) m k)
+      by : (k : ℕ) → pick m ≡ k → ((next : Machine) → Q next → Q (startWaiting turns next))
+          → Q (startPicked (startWaiting turns) m k)
       by zero e rest = q
       by (suc i) e rest = rest (start m i) (keeps m i e q)
 

@@ -26,14 +26,16 @@ use Rattle.machine.proofs.StateParts.{is-idle, GoodJob, GoodState}
 use Rattle.machine.proofs.StateTest.{state-test}
 
 -- set-up: the old machine counts only where the table is refused, and then it is all that is left
-pub set-up-fresh : (old : Machine) (t : Table) → refusal t .number ≡ 0 → setUp old t ≡ record { refused = refusal t; machine = fresh t }
+pub set-up-fresh : (old : Machine) (t : Table) → refusal t .number ≡ 0
+    → setUp old t ≡ record { refused = refusal t; machine = fresh t }
 unfolding setUp
 set-up-fresh old t e = rw (eq-eqb (refusal t .number) 0 e)
 
 pub set-up-forgets : (old other : Machine) (t : Table) → refusal t .number ≡ 0 → setUp old t ≡ setUp other t
 set-up-forgets old other t e = set-up-fresh old t e ∙ sym (set-up-fresh other t e)
 
-pub set-up-refused : (old : Machine) (t : Table) → (refusal t .number ≡ 0 → ⊥) → setUp old t ≡ record { refused = refusal t; machine = old }
+pub set-up-refused : (old : Machine) (t : Table) → (refusal t .number ≡ 0 → ⊥)
+    → setUp old t ≡ record { refused = refusal t; machine = old }
 unfolding setUp
 set-up-refused old t h = rw (ne-eqb (refusal t .number) 0 h)
 
@@ -64,16 +66,18 @@ module _ (t : Table) where
     fresh-no-job l = up-past mostTasks (freshJob t) (λ k. noJob) (t .n) i noJob l few
 
 -- a fresh machine depends on platform, n and rows 1 to n alone
-pub fresh-same : (t u : Table) → t .platform ≡ u .platform → t .n ≡ u .n → ((i : ℕ) → i < t .n → i < mostTasks → τ t (suc i) ≡ τ u (suc i))
-    → fresh t ≡ fresh u
+pub fresh-same : (t u : Table) → t .platform ≡ u .platform → t .n ≡ u .n
+    → ((i : ℕ) → i < t .n → i < mostTasks → τ t (suc i) ≡ τ u (suc i)) → fresh t ≡ fresh u
 unfolding fresh
 fresh-same t u p n h =
     let rows = up-same mostTasks (τ t) (τ u) (λ k. noTask) (t .n) h ∙ ap (upTo mostTasks (τ u) (λ k. noTask)) n in
-    let jobs = up-same mostTasks (freshJob t) (freshJob u) (λ k. noJob) (t .n) (λ i l m. rw (h i l m)) ∙ ap (upTo mostTasks (freshJob u) (λ k. noJob)) n in
+    let jobs = up-same mostTasks (freshJob t) (freshJob u) (λ k. noJob) (t .n) (λ i l m. rw (h i l m))
+    ∙ ap (upTo mostTasks (freshJob u) (λ k. noJob)) n in
     λ x. record { table = record { platform = p x; n = n x; rows = rows x }; jobs = jobs x }
 
 -- the table of a fresh machine is refused as the table given
-trimmed-take : (t : Table) → length (t .rows) ≡ mostTasks → t .n ≤ mostTasks → take (t .n) (trimmed t .rows) ≡ take (t .n) (t .rows)
+trimmed-take : (t : Table) → length (t .rows) ≡ mostTasks → t .n ≤ mostTasks
+    → take (t .n) (trimmed t .rows) ≡ take (t .n) (t .rows)
 trimmed-take t len few =
     let long : length (trimmed t .rows) ≡ mostTasks = length-tabulate _ mostTasks in
     let short : length (take (t .n) (trimmed t .rows)) ≡ t .n = simp length-take (omega arith) in
@@ -81,7 +85,8 @@ trimmed-take t len few =
     (λ i l.
     let m : i < t .n = omega arith in
     getD-take (t .n) (trimmed t .rows) i noTask m
-    ∙ (up-in mostTasks (τ t) (λ k. noTask) (t .n) i noTask m (omega arith) ∙ sym (getD-take (t .n) (t .rows) i noTask m)))
+    ∙ (up-in mostTasks (τ t) (λ k. noTask) (t .n) i noTask m (omega arith)
+    ∙ sym (getD-take (t .n) (t .rows) i noTask m)))
 
 pub fresh-refusal : (t : Table) → length (t .rows) ≡ mostTasks → t .n ≤ mostTasks → refusal (fresh t .table) ≡ refusal t
 unfolding fresh refusal tableRules
@@ -106,14 +111,17 @@ pub fresh-state : (t : Table) → refusal t .number ≡ 0 → length (t .rows) �
 unfolding fresh
 fresh-state t e len =
     let g = good-of t len e in
-    let unrefused : refusal (fresh t .table) .number ≡ 0 = ap (λ (r : Refusal). r .number) (fresh-refusal t len (g .sizes .few)) ∙ e in
+    let unrefused : refusal (fresh t .table) .number ≡ 0 =
+    ap (λ (r : Refusal). r .number) (fresh-refusal t len (g .sizes .few)) ∙ e in
     record {
       unrefused = unrefused;
       table = good-of (fresh t .table) (fresh-rows-length t) unrefused;
       noTasks = λ i l m. fresh-no-task t i m l;
       noJobs = λ i l m. fresh-no-job t i m l;
-      each = λ i l. let m : i < mostTasks = omega (arith, g .sizes .few) in rw (fresh-task t i m l, fresh-job t i m l) (fresh-job-good g i l);
-      apart = λ i j l m. rw (fresh-job t i (omega (arith, g .sizes .few)) (omega arith)) (and-zero-l (job (fresh t) (suc j) .held));
+      each = λ i l. let m : i < mostTasks = omega (arith, g .sizes .few) in
+          rw (fresh-task t i m l, fresh-job t i m l) (fresh-job-good g i l);
+      apart = λ i j l m. rw (fresh-job t i (omega (arith, g .sizes .few)) (omega arith))
+          (and-zero-l (job (fresh t) (suc j) .held));
       cores = omega (arith, fresh-running t (g .sizes .few));
     }
 

@@ -1,4 +1,5 @@
--- The conditions of a state part by part, for what is proved of good states. StateTest goes from the test of refusal 14 to them and back.
+-- The conditions of a state part by part, for what is proved of good states. StateTest goes from the test of refusal 14
+-- to them and back.
 use Prim.Native.Nat.{ℕ, suc, _-_, _^_, _<_, _≤_}
 use mathlib.Core.Path.{_≡_, refl, sym, _∙_, ap}
 use mathlib.Core.Bool.{Bool, true, false, _&&_, true≢false}

@@ -23,8 +23,10 @@ use Rattle.machine.specs.declared.Stage.{Stage}
 use Rattle.machine.specs.declared.Job.{Job}
 use Rattle.machine.specs.declared.Machine.{Machine}
 use Rattle.machine.specs.Jobs.{isIdle, isWaiting, isRunning, noJob, job, running}
-use Rattle.machine.specs.Conditions.{isNoTask, isNoJob, hasNothing, idlesWell, runsWell, goodStage, goodJob, goodState}
-use Rattle.machine.proofs.StateParts.{Rests, Runs, ByStage, is-idle, is-waiting, is-running, GoodJob, GoodState, idle-is, waiting-is, running-is}
+use Rattle.machine.specs.Conditions.{isNoTask, isNoJob, hasNothing, idlesWell, runsWell, goodStage, goodJob}
+use Rattle.machine.specs.Conditions.{goodState}
+use Rattle.machine.proofs.StateParts.{Rests, Runs, ByStage, is-idle, is-waiting, is-running, GoodJob, GoodState}
+use Rattle.machine.proofs.StateParts.{idle-is, waiting-is, running-is}
 
 -- all of x is below p
 below-lt : (x p : ℕ) → without x (below p) ≡ 0 → x < 2 ^ p
@@ -132,7 +134,8 @@ state-good m len e =
     let f = both _ _ (d .0) in
     let n = m .table .n in
     let unrefused : refusal (m .table) .number ≡ 0 = eqb-true (refusal (m .table) .number) 0 (f .0) in
-    let past : (i : ℕ) → n ≤ i → i < mostTasks → (isNoTask (τ (m .table) (suc i)) ≡ true) × (isNoJob (job m (suc i)) ≡ true) =
+    let past : (i : ℕ) → n ≤ i → i < mostTasks
+    → (isNoTask (τ (m .table) (suc i)) ≡ true) × (isNoJob (job m (suc i)) ≡ true) =
     λ i l h. both _ _ (rw (lt-leb (suc i) n (omega arith)) at (every-holds _ mostTasks (f .1) i h)) in
     record {
       unrefused = unrefused;
@@ -151,7 +154,8 @@ state-test m g =
       eq-eqb (refusal (m .table) .number) 0 (g .unrefused),
       every-of (λ k. leb k (m .table .n) || isNoTask (τ (m .table) k) && isNoJob (job m k)) mostTasks
           (λ i l. past-test (m .table .n) i _ (λ h. rw (g .noTasks i h l, g .noJobs i h l))),
-      every-of (λ k. goodJob (P (m .table)) (τ (m .table) k) (job m k)) (m .table .n) (λ i l. job-test _ _ _ (g .each i l)),
+      every-of (λ k. goodJob (P (m .table)) (τ (m .table) k) (job m k)) (m .table .n)
+          (λ i l. job-test _ _ _ (g .each i l)),
       apart-all (λ i. job m (suc i) .held) (m .table .n) (g .apart),
       le-leb (running m) (M (m .table)) (g .cores),
     )

@@ -1,4 +1,5 @@
--- A fresh machine: all tasks idle with age T and no partition held; and set-up, which leaves the old state where the table is refused.
+-- A fresh machine: all tasks idle with age T and no partition held; and set-up, which leaves the old state where the
+-- table is refused.
 use Prim.Native.Nat.{ℕ}
 use mathlib.Core.Bool.{cond}
 use lib.Dec.{leb}
@@ -14,7 +15,8 @@ use Rattle.machine.specs.Jobs.{Idle, noJob}
 
 -- the table with its entries past n zero
 abbrev pub trimmed : Table → Table
-trimmed t = record { platform = t .platform; n = t .n; rows = tabulate mostTasks (λ k. cond (leb k (t .n)) (τ t k) noTask) }
+trimmed t =
+    record { platform = t .platform; n = t .n; rows = tabulate mostTasks (λ k. cond (leb k (t .n)) (τ t k) noTask) }
 
 abbrev pub freshJob : Table → ℕ → Job
 freshJob t k = record { stage = Idle; age = T (τ t k); ran = 0; held = 0 }

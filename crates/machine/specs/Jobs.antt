@@ -1,5 +1,6 @@
 -- The names for what a state holds: the job of task k, who waits and runs, which partitions are busy and idle.
--- Idle cores and idle partitions are two counts of two kinds, as in the report: each is counted from the jobs and what they hold, and none is stored.
+-- Idle cores and idle partitions are two counts of two kinds, as in the report: each is counted from the jobs and what
+-- they hold, and none is stored.
 use Prim.Native.Nat.{ℕ, suc, _-_}
 use mathlib.Core.Bool.{Bool, cond}
 use lib.Dec.{eqb}

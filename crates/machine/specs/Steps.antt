@@ -1,4 +1,5 @@
--- The five steps of a tick, in the order and the words of document 01. Step 5 is FP_CA, blocking style (section 4.1 of the report).
+-- The five steps of a tick, in the order and the words of document 01. Step 5 is FP_CA, blocking style (section 4.1 of
+-- the report).
 use Prim.Native.Nat.{ℕ, zero, suc, _+_, min}
 use mathlib.Core.Bool.{Bool, cond, not, _&&_}
 use lib.Dec.{leb, eqb}
@@ -13,7 +14,8 @@ use Rattle.sets.specs.TaskSets.{hasTask, tasksWhere}
 use Rattle.sets.specs.Choice.{choice}
 use Rattle.machine.specs.declared.Job.{Job}
 use Rattle.machine.specs.declared.Machine.{Machine}
-use Rattle.machine.specs.Jobs.{Idle, Waiting, Running, isRunning, job, top, idles, waits, waiting, idleSet, idleCores, idlePartitions}
+use Rattle.machine.specs.Jobs.{Idle, Waiting, Running, isRunning, job, top, idles, waits, waiting, idleSet}
+use Rattle.machine.specs.Jobs.{idleCores, idlePartitions}
 
 -- the job of each task k from 1 to n changed by f k
 unfoldable pub forTasks : (ℕ → Job → Job) → Machine → Machine
@@ -23,7 +25,12 @@ forTasks f m =
 -- step 1: one unit has passed
 abbrev pub older : Task → Job → Job
 older τ j =
-    record { stage = j .stage; age = min (j .age + 1) (top τ); ran = cond (isRunning (j .stage)) (j .ran + 1) (j .ran); held = j .held }
+    record {
+      stage = j .stage;
+      age = min (j .age + 1) (top τ);
+      ran = cond (isRunning (j .stage)) (j .ran + 1) (j .ran);
+      held = j .held;
+    }
 
 abbrev pub passed : Machine → Machine
 passed m = forTasks (λ k. older (τ (m .table) k)) m
@@ -39,7 +46,8 @@ finish finished m = forTasks (λ k j. cond (hasTask finished k) (ended j) j) m
 abbrev pub lateSet : Machine → Machine → ℕ
 lateSet before now =
     tasksWhere
-    (λ k. not (idles now k) && eqb (job before k .age + 1) (D (τ (now .table) k)) && eqb (job now k .age) (D (τ (now .table) k)))
+    (λ k. not (idles now k) && eqb (job before k .age + 1) (D (τ (now .table) k))
+    && eqb (job now k .age) (D (τ (now .table) k)))
     (now .table .n)
 
 -- step 4: released tasks become waiting, age 0
@@ -60,8 +68,8 @@ fitsIn cores partitions τ = leb 1 (cores .0) && leb (A τ) (partitions .0)
 abbrev pub fits : Machine → ℕ → Bool
 fits m k = fitsIn (idleCores m) (idlePartitions m) (τ (m .table) k)
 
--- the task that step 5 starts next: the waiting job of lowest number, if it fits; if not, or where none waits, 0, and the step ends, even
--- where a later job would fit
+-- the task that step 5 starts next: the waiting job of lowest number, if it fits; if not, or where none waits, 0, and
+-- the step ends, even where a later job would fit
 abbrev pub pick : Machine → ℕ
 pick m = cond (fits m (firstWaiting m)) (firstWaiting m) 0
 

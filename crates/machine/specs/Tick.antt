@@ -1,5 +1,5 @@
--- One tick: its refusals, each tried over all tasks before the next, with the lowest task concerned, and the machine and the sets where
--- none is given. A refused tick leaves the state as it was and answers 0 for the sets.
+-- One tick: its refusals, each tried over all tasks before the next, with the lowest task concerned, and the machine
+-- and the sets where none is given. A refused tick leaves the state as it was and answers 0 for the sets.
 use Prim.Native.Nat.{ℕ}
 use mathlib.Core.Bool.{Bool, cond, not, _&&_, _||_}
 use mathlib.Core.List.{List, [], _∷_}
@@ -73,4 +73,5 @@ refusedTick m refused = record { machine = m; answer = refusedAnswer refused }
 
 unfoldable pub tick : Machine → ℕ → ℕ → Ticked
 tick m released finished =
-    cond (accepted m released finished) (acceptedTick m released finished) (refusedTick m (tickRefusal m released finished))
+    cond (accepted m released finished) (acceptedTick m released finished)
+    (refusedTick m (tickRefusal m released finished))

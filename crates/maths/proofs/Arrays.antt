@@ -16,7 +16,8 @@ use Rattle.maths.proofs.Padded.{length-padded, getD-padded}
 use Rattle.maths.proofs.Tasks.{length-tabulate, getD-tabulate, set-tabulate}
 
 -- only the entries of tasks 1 to n count
-pub tabulate-ext : {X : Type 0} (f g : ℕ → X) (n : ℕ) → ((i : ℕ) → i < n → f (suc i) ≡ g (suc i)) → tabulate n f ≡ tabulate n g
+pub tabulate-ext : {X : Type 0} (f g : ℕ → X) (n : ℕ) → ((i : ℕ) → i < n → f (suc i) ≡ g (suc i))
+    → tabulate n f ≡ tabulate n g
 unfolding tabulate
 tabulate-ext f g zero h = refl
 tabulate-ext f g (suc n) h = rw (tabulate-ext f g n (λ i l. h i (omega arith)), h n (omega arith))
@@ -43,11 +44,14 @@ module _ {X : Type 0} (n : ℕ) (f g : ℕ → X) where
 
   pub up-more : (i : ℕ) → i < n → set (upTo n f g i) i (f (suc i)) ≡ upTo n f g (i + 1)
   up-more i l =
-      let now : cond (leb (suc i) (i + 1)) (f (suc i)) (g (suc i)) ≡ f (suc i) = rw (le-leb (suc i) (i + 1) (omega arith)) in
+      let now : cond (leb (suc i) (i + 1)) (f (suc i)) (g (suc i)) ≡ f (suc i) =
+      rw (le-leb (suc i) (i + 1) (omega arith)) in
       ap (λ (z : X). set (upTo n f g i) i z) (sym now)
-      ∙ set-tabulate (λ k. cond (leb k i) (f k) (g k)) (λ k. cond (leb k (i + 1)) (f k) (g k)) n i l (λ j m ne. other j ne)
+      ∙ set-tabulate (λ k. cond (leb k i) (f k) (g k))
+      (λ k. cond (leb k (i + 1)) (f k) (g k)) n i l (λ j m ne. other j ne)
     where
-      other : (j : ℕ) → j ≢ i → cond (leb (suc j) (i + 1)) (f (suc j)) (g (suc j)) ≡ cond (leb (suc j) i) (f (suc j)) (g (suc j))
+      other : (j : ℕ) → j ≢ i
+          → cond (leb (suc j) (i + 1)) (f (suc j)) (g (suc j)) ≡ cond (leb (suc j) i) (f (suc j)) (g (suc j))
       other j ne =
           elim (decLt j i) [
             | yes h ↦ rw (le-leb (suc j) (i + 1) (omega arith), le-leb (suc j) i h)
@@ -61,7 +65,8 @@ module _ {X : Type 0} (n : ℕ) (f g : ℕ → X) where
   pub up-most : (i : ℕ) → upTo n f g (min i n) ≡ upTo n f g i
   up-most i = tabulate-ext (λ k. cond (leb k (min i n)) (f k) (g k)) (λ k. cond (leb k i) (f k) (g k)) n at
     where
-      at : (j : ℕ) → j < n → cond (leb (suc j) (min i n)) (f (suc j)) (g (suc j)) ≡ cond (leb (suc j) i) (f (suc j)) (g (suc j))
+      at : (j : ℕ) → j < n
+          → cond (leb (suc j) (min i n)) (f (suc j)) (g (suc j)) ≡ cond (leb (suc j) i) (f (suc j)) (g (suc j))
       at j l =
           elim (decLt j i) [
             | yes h ↦ rw (le-leb (suc j) (min i n) (omega arith), le-leb (suc j) i h)
@@ -76,7 +81,8 @@ module _ {X : Type 0} (n : ℕ) (f g : ℕ → X) where
   up-past i j d l m = getD-tabulate (λ k. cond (leb k i) (f k) (g k)) n j d m ∙ rw (lt-leb (suc j) i (omega arith))
 
 -- of f only the entries 1 to i count
-pub up-same : {X : Type 0} (n : ℕ) (f h g : ℕ → X) (i : ℕ) → ((j : ℕ) → j < i → j < n → f (suc j) ≡ h (suc j)) → upTo n f g i ≡ upTo n h g i
+pub up-same : {X : Type 0} (n : ℕ) (f h g : ℕ → X) (i : ℕ) → ((j : ℕ) → j < i → j < n → f (suc j) ≡ h (suc j))
+    → upTo n f g i ≡ upTo n h g i
 up-same n f h g i e = tabulate-ext (λ k. cond (leb k i) (f k) (g k)) (λ k. cond (leb k i) (h k) (g k)) n at
   where
     at : (j : ℕ) → j < n → cond (leb (suc j) i) (f (suc j)) (g (suc j)) ≡ cond (leb (suc j) i) (h (suc j)) (g (suc j))

@@ -15,7 +15,8 @@ module _ {A : Type 0} (d : A) where
   padded-none zero = refl
   padded-none (suc k) = ap {B = List A} (λ r. d ∷ r) (padded-none k)
 
-  pub padded-more : (k : ℕ) (xs : List A) (x : A) → length xs < k → padded k d (xs ++ (x ∷ [])) ≡ set (padded k d xs) (length xs) x
+  pub padded-more : (k : ℕ) (xs : List A) (x : A) → length xs < k
+      → padded k d (xs ++ (x ∷ [])) ≡ set (padded k d xs) (length xs) x
   unfolding padded
   padded-more zero xs x h = absurd (no h)
     where
@@ -42,7 +43,8 @@ module _ {A : Type 0} (d : A) where
   -- an array that is filled from the left
   module _ (k : ℕ) (l : List A) (j : ℕ) (v : A) (e : padded k d (take j l) ≡ l) (less : j < k) where
     pub filled-take : take (j + 1) (set l j v) ≡ take j l ++ (v ∷ [])
-    filled-take = let size : length l ≡ k = ap length (sym e) ∙ length-padded k (take j l) in rw add-one (take-suc-set l j v (omega arith))
+    filled-take = let size : length l ≡ k = ap length (sym e) ∙ length-padded k (take j l) in
+        rw add-one (take-suc-set l j v (omega arith))
 
     pub filled : padded k d (take (j + 1) (set l j v)) ≡ set l j v
     filled =

@@ -73,7 +73,11 @@ sum-but f g zero i l same = absurd (omega arith)
 sum-but f g (suc n) i l same =
     elim (ℕ-discrete i n) [
       | yes e ↦ rw e (omega (arith, sum-ext g f n (λ j h. same j (omega arith) (omega arith))))
-      | no h ↦ omega (arith, same n (omega arith) (omega arith), sum-but f g n i (omega arith) (λ j k d. same j (omega arith) d))
+      | no h ↦ omega (
+        arith,
+        same n (omega arith) (omega arith),
+        sum-but f g n i (omega arith) (λ j k d. same j (omega arith) d),
+      )
     ]
 
 -- a sum of more values is no smaller
@@ -87,7 +91,8 @@ sum-grows f i (suc n) l =
     ]
 
 -- one value rises by c
-pub sum-rise : (f g : ℕ → ℕ) (n i c : ℕ) → i < n → ((j : ℕ) → j < n → (j ≡ i → ⊥) → g j ≡ f j) → g i ≡ f i + c → sum g n ≡ sum f n + c
+pub sum-rise : (f g : ℕ → ℕ) (n i c : ℕ) → i < n → ((j : ℕ) → j < n → (j ≡ i → ⊥) → g j ≡ f j)
+    → g i ≡ f i + c → sum g n ≡ sum f n + c
 sum-rise f g n i c l same e = omega (arith, sum-but f g n i l same)
 
 pub Σ-zero : (f : ℕ → ℕ) → Σ 0 f ≡ 0

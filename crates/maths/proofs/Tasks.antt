@@ -164,7 +164,8 @@ module _ {X : Type 0} (f : ℕ → X) where
   getD-tabulate zero i d l = absurd (not-suc-le-zero l)
   getD-tabulate (suc n) i d l =
       elim (decLt i n) [
-        | yes h ↦ List·getD-append (tabulate n f) (f (suc n) ∷ []) d i (omega (arith, length-tabulate n)) ∙ getD-tabulate n i d h
+        | yes h ↦ List·getD-append (tabulate n f) (f (suc n) ∷ []) d i (omega (arith, length-tabulate n))
+            ∙ getD-tabulate n i d h
         | no h ↦ let z : i ≡ n = omega arith in rw z (getD-at (tabulate n f) (f (suc n)) [] d n (length-tabulate n))
       ]
 
@@ -172,14 +173,17 @@ module _ {X : Type 0} (f : ℕ → X) where
 pub set-tabulate : {X : Type 0} (f g : ℕ → X) (n i : ℕ) → i < n → ((j : ℕ) → j < n → j ≢ i → g (suc j) ≡ f (suc j))
     → set (tabulate n f) i (g (suc i)) ≡ tabulate n g
 set-tabulate f g n i l same =
-    let long : length (set (tabulate n f) i (g (suc i))) ≡ n = length-set (tabulate n f) i (g (suc i)) ∙ length-tabulate f n in
+    let long : length (set (tabulate n f) i (g (suc i))) ≡ n =
+    length-set (tabulate n f) i (g (suc i)) ∙ length-tabulate f n in
     ext-getD (g 0) _ _ (long ∙ sym (length-tabulate g n)) (λ j m. at j (omega (arith, long)))
   where
     at : (j : ℕ) → j < n → getD (set (tabulate n f) i (g (suc i))) j (g 0) ≡ getD (tabulate n g) j (g 0)
     at j m =
         elim (ℕ-discrete j i) [
-          | yes e ↦ rw (e, getD-tabulate g n i (g 0) l) (getD-set-same (tabulate n f) i (g (suc i)) (g 0) (omega (arith, length-tabulate f n)))
-          | no h ↦ getD-set-other (tabulate n f) i j (g (suc i)) (g 0) h ∙ (getD-tabulate f n j (g 0) m ∙ (sym (same j m h) ∙ sym (getD-tabulate g n j (g 0) m)))
+          | yes e ↦ rw (e, getD-tabulate g n i (g 0) l)
+              (getD-set-same (tabulate n f) i (g (suc i)) (g 0) (omega (arith, length-tabulate f n)))
+          | no h ↦ getD-set-other (tabulate n f) i j (g (suc i)) (g 0) h
+              ∙ (getD-tabulate f n j (g 0) m ∙ (sym (same j m h) ∙ sym (getD-tabulate g n j (g 0) m)))
         ]
 
 pub orElse-some : (x y : ℕ) → 0 < x → orElse x y ≡ x

@@ -1,4 +1,5 @@
--- What a chain of tests decides: code that branches against a definition by `cond`, and back from the answer to the tests.
+-- What a chain of tests decides: code that branches against a definition by `cond`, and back from the answer to the
+-- tests.
 use Prim.Native.Nat.{ℕ, zero, suc, _<_, _≤_}
 use mathlib.Core.Path.{_≡_, refl, sym}
 use mathlib.Core.Bool.{Bool, true, false, cond, _&&_, _||_, true≢false}

@@ -1,4 +1,5 @@
--- Tasks are numbered from 1: a fact or a test asked of tasks 1 to n, the lowest of them that meets it, a list with an entry for each.
+-- Tasks are numbered from 1: a fact or a test asked of tasks 1 to n, the lowest of them that meets it, a list with an
+-- entry for each.
 use Prim.Native.Nat.{ℕ, zero, suc, _≤_}
 use mathlib.Core.Bool.{Bool, true, false, cond, _&&_}
 use mathlib.Core.List.{List, [], _∷_, _++_}

@@ -1,4 +1,5 @@
--- What the report and the answer of an accepted tick say of one task: x is its life before the tick, and f, r and s are whether the tick finishes, releases and starts it.
+-- What the report and the answer of an accepted tick say of one task: x is its life before the tick, and f, r and s are
+-- whether the tick finishes, releases and starts it.
 use Prim.Native.Nat.{ℕ}
 use mathlib.Core.Path.{_≡_, refl}
 use mathlib.Core.Bool.{Bool, true, false}
@@ -17,7 +18,8 @@ module _ (row : Row) (top : ℕ) where
   comes-age x f false = refl
 
   -- waiting and not started: it waits on
-  pub waits-on : (x : Life) (f r : Bool) → Allowed row (rise top x) f r false → waits x ≡ 1 → waits (led top x f r false) ≡ 1
+  pub waits-on : (x : Life) (f r : Bool) → Allowed row (rise top x) f r false → waits x ≡ 1
+      → waits (led top x f r false) ≡ 1
   waits-on (idle a) f r h w = absurd (omega arith)
   waits-on (waiting a) true r h w = absurd (omega (arith, h .wasRunning refl))
   waits-on (waiting a) false true h w = absurd (omega (arith, h .free refl))
@@ -25,7 +27,8 @@ module _ (row : Row) (top : ℕ) where
   waits-on (running a n) f r h w = absurd (omega arith)
 
   -- there after the tick and not released in it: it was there before, and is not finished
-  pub was : (x : Life) (f s : Bool) → Allowed row (rise top x) f false s → idles (led top x f false s) ≡ 0 → (idles x ≡ 0) × (f ≡ false)
+  pub was : (x : Life) (f s : Bool) → Allowed row (rise top x) f false s → idles (led top x f false s) ≡ 0
+      → (idles x ≡ 0) × (f ≡ false)
   was (idle a) true s h w = absurd (omega (arith, h .wasRunning refl))
   was (idle a) false true h w = absurd (omega (arith, h .queued refl))
   was (idle a) false false h w = absurd (omega arith)
@@ -42,7 +45,8 @@ module _ (row : Row) (top : ℕ) where
   finishes-there (running a n) r s h = refl
 
   -- unfinished after step 2: it was there, and of the same age as after step 1
-  pub unfinished : (x : Life) (f : Bool) → idles (finish f (rise top x)) ≡ 0 → (idles x ≡ 0) × (age (finish f (rise top x)) ≡ age (rise top x))
+  pub unfinished : (x : Life) (f : Bool) → idles (finish f (rise top x)) ≡ 0
+      → (idles x ≡ 0) × (age (finish f (rise top x)) ≡ age (rise top x))
   unfinished (idle a) true w = absurd (omega arith)
   unfinished (idle a) false w = absurd (omega arith)
   unfinished (waiting a) true w = absurd (omega arith)

@@ -21,6 +21,8 @@ are-steps (call e c) = rw (are-steps c, e)
 
 pub demand-3-of-calls : Demand3OfCalls
 demand-3-of-calls t whole old xs c yes-admitted =
-    let a : Admitted t = record { whole = whole; verdict = sym (ap (λ (q : QuickAnswer). q .admitted) (c .quickContract)) ∙ yes-admitted } in
-    let first : c .begun .machine ≡ fresh t = ap (λ (u : SetUp). u .machine) (c .setUpContract ∙ set-up-fresh old t (not-refused t a)) in
+    let a : Admitted t =
+    record { whole = whole; verdict = sym (ap (λ (q : QuickAnswer). q .admitted) (c .quickContract)) ∙ yes-admitted } in
+    let first : c .begun .machine ≡ fresh t =
+    ap (λ (u : SetUp). u .machine) (c .setUpContract ∙ set-up-fresh old t (not-refused t a)) in
     rw (are-steps (c .tickContract), first) (demand-3 t a xs)

@@ -32,15 +32,20 @@ module _ (t : Table) (a : Safe t) (xs : List Report) where
 
   -- tick i: what it says of task k, and what it makes of k's life
   module _ (i : ℕ) (l : i < count (sequence t xs)) where
-    pub says : Each (t .n) (λ k. Allowed (rows t k) (rise (tops t k) (lives s i k)) (finishes s i k) (releases s i k) (starts s i k))
+    pub says : Each (t .n)
+        (λ k. Allowed (rows t k) (rise (tops t k) (lives s i k)) (finishes s i k) (releases s i k) (starts s i k))
     says k p q =
-        subst (λ (h : ℕ). Allowed (rows t k) (rise h (lives s i k)) (finishes s i k) (releases s i k) (starts s i k)) (same-top t a k p q)
-        (subst (λ (r : Row). Allowed r (rise (tops (trimmed t) k) (lives s i k)) (finishes s i k) (releases s i k) (starts s i k)) (same-row t a k p q)
+        subst (λ (h : ℕ). Allowed (rows t k) (rise h (lives s i k)) (finishes s i k) (releases s i k) (starts s i k))
+        (same-top t a k p q)
+        (subst (λ (r : Row). Allowed r (rise (tops (trimmed t) k) (lives s i k)) (finishes s i k) (releases s i k)
+        (starts s i k)) (same-row t a k p q)
         (conducts t a xs i l .allows k p q))
 
-    pub does : Each (t .n) (λ k. led (tops t k) (lives s i k) (finishes s i k) (releases s i k) (starts s i k) ≡ lives s (suc i) k)
+    pub does : Each (t .n)
+        (λ k. led (tops t k) (lives s i k) (finishes s i k) (releases s i k) (starts s i k) ≡ lives s (suc i) k)
     does k p q =
-        subst (λ (h : ℕ). led h (lives s i k) (finishes s i k) (releases s i k) (starts s i k) ≡ lives s (suc i) k) (same-top t a k p q)
+        subst (λ (h : ℕ). led h (lives s i k) (finishes s i k) (releases s i k) (starts s i k) ≡ lives s (suc i) k)
+        (same-top t a k p q)
         (conducts t a xs i l .moves k p q)
 
   first : Each (t .n) (λ k. lives s 0 k ≡ idle (rows t k .T))
@@ -55,10 +60,17 @@ module _ (t : Table) (a : Safe t) (xs : List Report) where
         fresh = first;
         next =
             λ i l k p q.
-            record { finished = finishes s i k; released = releases s i k; started = starts s i k; allowed = says i l k p q; lands = does i l k p q };
+            record {
+              finished = finishes s i k;
+              released = releases s i k;
+              started = starts s i k;
+              allowed = says i l k p q;
+              lands = does i l k p q;
+            };
         full = λ i l k p q w. same-full t a k p q _ (conducts t a xs i l .full k p q w);
         starts = λ i l k p q w. tt;
       }
 
-  pub on-time : (i : ℕ) → i ≤ count s → Each (t .n) (λ k. WithinC (rows t k) (lives s i k) × OnTime (rows t k) (lives s i k))
+  pub on-time : (i : ℕ) → i ≤ count s
+      → Each (t .n) (λ k. WithinC (rows t k) (lives s i k) × OnTime (rows t k) (lives s i k))
   on-time i l k p q = (all-within course i l k p q, all-on-time course i l k p q)

@@ -38,9 +38,15 @@ one-holder {m} g p = each (m .table .n) _ (λ i u. each (m .table .n) _ (λ j v.
   where
     apart : (i j : ℕ) → i < j → j < m .table .n → has (held m (suc i)) p ≡ true → has (held m (suc j)) p ≡ true → ⊥
     apart i j l v a b =
-        omega (arith, has-true _ p a, has-true _ p b, disjoint-bit (held m (suc i)) (held m (suc j)) p (g .apart i j l v))
+        omega (
+          arith,
+          has-true _ p a,
+          has-true _ p b,
+          disjoint-bit (held m (suc i)) (held m (suc j)) p (g .apart i j l v),
+        )
 
-    both : (i j : ℕ) → i < m .table .n → j < m .table .n → has (held m (suc i)) p ≡ true → has (held m (suc j)) p ≡ true → suc i ≡ suc j
+    both : (i j : ℕ) → i < m .table .n → j < m .table .n → has (held m (suc i)) p ≡ true
+        → has (held m (suc j)) p ≡ true → suc i ≡ suc j
     both i j u v a b =
         elim (decLt i j) [
           | yes l ↦ absurd (apart i j l v a b)
@@ -58,7 +64,8 @@ module _ (t : Table) (a : Safe t) (xs : List Report) where
   staged : (i : ℕ) → i ≤ count s → Each (t .n) (λ k. Staged (job (state s i) k .stage))
   staged i l = each (t .n) _ (λ j h. when-good (sound t a xs i l .good .each j (rw (sound t a xs i l .same) h)))
 
-  timely : (i : ℕ) → i ≤ count s → Each (state s i .table .n) (λ k. Timely (rows (state s i .table) k) (job (state s i) k))
+  timely : (i : ℕ) → i ≤ count s
+      → Each (state s i .table .n) (λ k. Timely (rows (state s i .table) k) (job (state s i) k))
   timely i l =
       subst (λ (u : Table). Each (u .n) (λ k. Timely (rows u k) (job (state s i) k))) (sym (sound t a xs i l .same))
       (λ k p q. subst (λ (r : Row). Timely r (job (state s i) k)) (sym (same-row t a k p q))
@@ -82,12 +89,14 @@ module _ (t : Table) (a : Safe t) (xs : List Report) where
 
   never-13 : (i : ℕ) → i ≤ count s → (x : Report) → told (state s i) x .answer .refused .number ≢ 13
   never-13 i l x =
-      rw (tick-refusal (state s i) (x .released) (x .finished)) (no-13 (state s i) (few i l) (timely i l) (x .released) (x .finished))
+      rw (tick-refusal (state s i) (x .released) (x .finished))
+      (no-13 (state s i) (few i l) (timely i l) (x .released) (x .finished))
 
   one-holder-each : (i : ℕ) → i ≤ count s → (p : ℕ) → Each (t .n) (λ k. Each (t .n) (λ l.
       has (held (state s i) k) p ≡ true → has (held (state s i) l) p ≡ true → k ≡ l))
   one-holder-each i l p =
-      subst (λ (u : Table). Each (u .n) (λ k. Each (u .n) (λ h. has (held (state s i) k) p ≡ true → has (held (state s i) h) p ≡ true → k ≡ h)))
+      subst (λ (u : Table). Each (u .n)
+      (λ k. Each (u .n) (λ h. has (held (state s i) k) p ≡ true → has (held (state s i) h) p ≡ true → k ≡ h)))
       (sound t a xs i l .same)
       (one-holder (sound t a xs i l .good) p)
 

@@ -36,7 +36,10 @@ module _ (t : Table) (a : Safe t) (xs : List Report) (k : ℕ) (p : 1 ≤ k) (q 
       }
 
   job-more : (i e : ℕ) → Job i e → finishes s e k ≡ false → idles (x (suc e)) ≡ 0 → Job i (suc e)
-  job-more i e j f w = record { part = record { later = omega (arith, j .part .later); released = j .part .released; between = between }; there = there }
+  job-more i e j f w = record {
+    part = record { later = omega (arith, j .part .later); released = j .part .released; between = between };
+    there = there;
+  }
     where
       between : (d : ℕ) → i < d → d < suc e → finishes s d k ≡ false
       between d u v =
@@ -76,9 +79,11 @@ module _ (t : Table) (a : Safe t) (xs : List Report) (k : ℕ) (p : 1 ≤ k) (q 
 
   pub ends-short : (j : ℕ) → j < count s → finishes s j k ≡ true → (i : ℕ) × (Finished s k i j) × InDeadline t k (j - i)
   ends-short j l f =
-      let o = origin j (omega arith) (finishes-there (rows t k) (tops t k) (x j) (releases s j k) (starts s j k) (rw f at (says t a xs j l k p q))) in
+      let o = origin j (omega arith)
+      (finishes-there (rows t k) (tops t k) (x j) (releases s j k) (starts s j k) (rw f at (says t a xs j l k p q))) in
       let i = o .0 in
       let later : i < j = o .1 .part .later in
       let short : suc (j - suc i) < rows t k .D =
-      ends-below-deadline (course t a xs) k p q (suc i) (j - suc i) (omega arith) (unfinished i j (omega arith) (o .1)) in
+      ends-below-deadline (course t a xs) k p q (suc i) (j - suc i) (omega arith)
+      (unfinished i j (omega arith) (o .1)) in
       (i, o .1 .part, omega arith)

@@ -1,4 +1,5 @@
--- What a sequence is made of: each of its ticks is accepted in the state before it, answers what the machine answers there, and leaves the state after it.
+-- What a sequence is made of: each of its ticks is accepted in the state before it, answers what the machine answers
+-- there, and leaves the state after it.
 use Prim.Native.Nat.{ℕ, zero, suc, _<_}
 use mathlib.Core.Path.{_≡_, refl, sym, _∙_, ap, subst}
 use mathlib.Core.Bool.{Bool, true, false}
@@ -40,7 +41,8 @@ following m (x ∷ xs) = by (accepts (told m x .answer)) refl (following (told m
     by : (b : Bool) → accepts (told m x .answer) ≡ b → Following (told m x .machine) (steps (told m x .machine) xs)
         → Following m (counted b (step x (told m x)) (steps (told m x .machine) xs))
     by true e rest =
-        one-more m (step x (told m x)) (steps (told m x .machine) xs) (record { taken = sym (accepts-is m x) ∙ e; answer = refl; after = refl }) rest
+        one-more m (step x (told m x)) (steps (told m x .machine) xs)
+        (record { taken = sym (accepts-is m x) ∙ e; answer = refl; after = refl }) rest
     by false e rest =
         let same : told m x .machine ≡ m = tick-refused m (x .released) (x .finished) (sym (accepts-is m x) ∙ e) in
         subst (λ (z : Machine). Following z (steps (told m x .machine) xs)) same rest

@@ -1,5 +1,5 @@
--- All that the theorem needs of a table, whichever test it passed: another test builds a `Safe` and changes nothing else here. And the table that a fresh machine keeps,
--- which is zero past n, says the same of tasks 1 to n.
+-- All that the theorem needs of a table, whichever test it passed: another test builds a `Safe` and changes nothing
+-- else here. And the table that a fresh machine keeps, which is zero past n, says the same of tasks 1 to n.
 use Prim.Native.Nat.{ℕ, zero, suc, _*_, _≤_}
 use mathlib.Core.Path.{_≡_, refl, ap}
 use native.Mathlib.Omega.{arith}
@@ -64,5 +64,6 @@ module _ (t : Table) (safe : Safe t) where
       (omega (
         arith,
         same-Amax k q,
-        Σ-ext (t .n) (λ i. A (τ (trimmed t) i) * r i) (λ i. A (τ t i) * r i) (λ i u v. ap (λ (a : ℕ). a * r i) (same-A i u v)),
+        Σ-ext (t .n) (λ i. A (τ (trimmed t) i) * r i) (λ i. A (τ t i) * r i)
+            (λ i u v. ap (λ (a : ℕ). a * r i) (same-A i u v)),
       ))

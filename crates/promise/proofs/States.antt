@@ -24,7 +24,8 @@ step-conduct : (t : Table) (m : Machine) (st : Step) → m .table ≡ trimmed t 
 step-conduct t m st same f =
     let long : length (m .table .rows) ≡ mostTasks = rw same (length-tabulate _ mostTasks) in
     rw (f .after, f .answer)
-    (subst (λ (u : Table). Conduct u m (told m (st .report) .machine) (st .report .released) (st .report .finished) (told m (st .report) .answer .started)) same
+    (subst (λ (u : Table). Conduct u m (told m (st .report) .machine) (st .report .released) (st .report .finished)
+    (told m (st .report) .answer .started)) same
     (conduct m (st .report .released) (st .report .finished) long (f .taken)))
 
 module _ (t : Table) (a : Safe t) (xs : List Report) where
@@ -41,7 +42,8 @@ module _ (t : Table) (a : Safe t) (xs : List Report) where
 
   -- tick i
   pub conducts : (i : ℕ) → i < count s
-      → Conduct (trimmed t) (state s i) (state s (suc i)) (tickAt s i .report .released) (tickAt s i .report .finished) (tickAt s i .answer .started)
+      → Conduct (trimmed t) (state s i) (state s (suc i)) (tickAt s i .report .released) (tickAt s i .report .finished)
+      (tickAt s i .answer .started)
   conducts i l = step-conduct t (state s i) (tickAt s i) (same i (omega arith)) (follows i l)
 
   -- state i
@@ -52,5 +54,6 @@ module _ (t : Table) (a : Safe t) (xs : List Report) where
   pub sound : (i : ℕ) → i ≤ count s → Sound (state s i)
   sound zero l = record { same = same zero l; good = fresh-state t (a .unrefused) (a .whole) }
   sound (suc i) l =
-      let long : length (state s (suc i) .table .rows) ≡ mostTasks = rw (same (suc i) l) (length-tabulate _ mostTasks) in
+      let long : length (state s (suc i) .table .rows) ≡ mostTasks =
+      rw (same (suc i) l) (length-tabulate _ mostTasks) in
       record { same = same (suc i) l; good = state-good (state s (suc i)) long (conducts i l .good) }

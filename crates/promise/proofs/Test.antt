@@ -15,13 +15,17 @@ use Rattle.promise.specs.Promise.{Admitted}
 use Rattle.promise.proofs.Safe.{Safe}
 
 -- the verdict: no refusal, and every task passes
-verdict-parts : (t : Table) → Admitted t → (refusal t .number ≡ 0) × ((i : ℕ) → i < t .n → load t (suc i) < limit t (suc i))
+verdict-parts : (t : Table) → Admitted t
+    → (refusal t .number ≡ 0) × ((i : ℕ) → i < t .n → load t (suc i) < limit t (suc i))
 unfolding quickAnswer
 verdict-parts t a = by (unrefused t) refl
   where
-    by : (b : Bool) → unrefused t ≡ b → (refusal t .number ≡ 0) × ((i : ℕ) → i < t .n → load t (suc i) < limit t (suc i))
-    by true e =
-        (eqb-true _ 0 e, λ i l. ltb-true _ _ (sym (passes-is t (suc i)) ∙ every-holds (passes t) (t .n) (rw e at (a .verdict)) i l))
+    by : (b : Bool) → unrefused t ≡ b
+        → (refusal t .number ≡ 0) × ((i : ℕ) → i < t .n → load t (suc i) < limit t (suc i))
+    by true e = (
+      eqb-true _ 0 e,
+      λ i l. ltb-true _ _ (sym (passes-is t (suc i)) ∙ every-holds (passes t) (t .n) (rw e at (a .verdict)) i l),
+    )
     by false e = absurd (true≢false (sym (rw e at (a .verdict))))
 
 module _ (t : Table) (a : Admitted t) where

@@ -1,5 +1,5 @@
--- P1 is admitted and its tasks contend, by computation; and time can always go on: in a good state the report that finishes exactly the jobs that have run C ticks, and
--- releases nothing, is accepted.
+-- P1 is admitted and its tasks contend, by computation; and time can always go on: in a good state the report that
+-- finishes exactly the jobs that have run C ticks, and releases nothing, is accepted.
 use mathlib.Core.Path.{_≡_, refl, _∙_, ap}
 use mathlib.Core.Bool.{true}
 use mathlib.Core.List.{List}
@@ -32,11 +32,15 @@ unfolding quickAnswer sum every lowest tableRules rowRules rowsFrom refusal Amax
 p1-verdict = refl
 
 pub contended : Contended
-unfolding steps tick tickRefusal firstGiven tickRules goodState goodJob forTasks startWaiting fresh running busy sum every lowest tabulate tableRules rowRules rowsFrom refusal size members setOf setWhere unionOf allApart choice
-contended = record { admitted = record { whole = refl; verdict = p1-verdict }; oneTick = refl; started = refl; waits = refl }
+unfolding steps tick tickRefusal firstGiven tickRules goodState goodJob forTasks startWaiting fresh running busy sum
+    every lowest tabulate tableRules rowRules rowsFrom refusal size members setOf setWhere unionOf allApart choice
+contended =
+    record { admitted = record { whole = refl; verdict = p1-verdict }; oneTick = refl; started = refl; waits = refl }
 
 pub time-goes-on : (t : Table) → Admitted t → (reports : List Report) → GoesOn (sequence t reports)
 time-goes-on t a xs i l =
     let m = state (sequence t xs) i in
-    let ok = goes-on m (sound t (safe t a) xs i l .good) in
-    (record { released = 0; finished = overSet m }, ap (λ (r : Refusal). r .number) (tick-refusal m 0 (overSet m)) ∙ eqb-true _ 0 ok)
+    let ok = goes-on m (sound t (safe t a) xs i l .good) in (
+      record { released = 0; finished = overSet m },
+      ap (λ (r : Refusal). r .number) (tick-refusal m 0 (overSet m)) ∙ eqb-true _ 0 ok,
+    )

@@ -36,7 +36,8 @@ pub record Timely (task : Row) (j : Job) : Type 0 where
   pub onTime : OnTime task (life j)
   pub staged : Staged (j .stage)
 
-module _ (m : Machine) (few : m .table .n ≤ mostTasks) (timely : Each (m .table .n) (λ k. Timely (rows (m .table) k) (job m k))) where
+module _ (m : Machine) (few : m .table .n ≤ mostTasks)
+    (timely : Each (m .table .n) (λ k. Timely (rows (m .table) k) (job m k))) where
   module _ (k : ℕ) (p : 1 ≤ k) (q : k ≤ m .table .n) (F : ℕ) where
     abbrev t : Table
     t = m .table
@@ -49,7 +50,8 @@ module _ (m : Machine) (few : m .table .n ≤ mostTasks) (timely : Each (m .tabl
     is = ap life (finished-job m k p q (omega arith) F) ∙ life-finished (τ t k) (hasTask F k) (job m k)
 
     staged : Staged (job (finish F (passed m)) k .stage)
-    staged = rw (finished-job m k p q (omega arith) F) (finished-staged (τ t k) (hasTask F k) (job m k) (timely k p q .staged))
+    staged = rw (finished-job m k p q (omega arith) F)
+        (finished-staged (τ t k) (hasTask F k) (job m k) (timely k p q .staged))
 
     young : idles (finish F (passed m)) k ≡ false → job (finish F (passed m)) k .age < D (τ t k)
     young e =
@@ -66,22 +68,27 @@ module _ (m : Machine) (few : m .table .n ≤ mostTasks) (timely : Each (m .tabl
         )
 
     not-late-task : (d : ℕ) → d ≡ D (τ t k)
-        → not (idles (finish F (passed m)) k) && eqb (job m k .age + 1) d && eqb (job (finish F (passed m)) k .age) d ≡ false
+        → not (idles (finish F (passed m)) k) && eqb (job m k .age + 1) d
+        && eqb (job (finish F (passed m)) k .age) d ≡ false
     not-late-task d e = by (idles (finish F (passed m)) k) refl
       where
         by : (b : Bool) → idles (finish F (passed m)) k ≡ b
             → not b && eqb (job m k .age + 1) d && eqb (job (finish F (passed m)) k .age) d ≡ false
         by true i = refl
-        by false i = rw (ne-eqb (job (finish F (passed m)) k .age) d (omega (arith, young i))) (and-false (eqb (job m k .age + 1) d))
+        by false i = rw (ne-eqb (job (finish F (passed m)) k .age) d (omega (arith, young i)))
+            (and-false (eqb (job m k .age + 1) d))
 
     -- a task of age T or more after step 1 has no unfinished job
     idle-at-T : T (τ t k) ≤ job (passed m) k .age → idles (finish F (passed m)) k ≡ true
     idle-at-T l =
-        let older : life (job (passed m) k) ≡ L.rise (top (τ t k)) x = ap life (passed-job m k p q (omega arith)) ∙ life-older (τ t k) (job m k) in
-        let old : T (τ t k) ≤ L.age (L.rise (top (τ t k)) x) = omega (arith, shows (job (passed m) k) .age, ap L.age older) in
+        let older : life (job (passed m) k) ≡ L.rise (top (τ t k)) x =
+        ap life (passed-job m k p q (omega arith)) ∙ life-older (τ t k) (job m k) in
+        let old : T (τ t k) ≤ L.age (L.rise (top (τ t k)) x) =
+        omega (arith, shows (job (passed m) k) .age, ap L.age older) in
         let g = timely k p q in
         let i = on-time.never-13 (row (τ t k)) (top (τ t k)) (g .sound) x (hasTask F k) (g .within) (g .onTime) old in
-        one-true (idles (finish F (passed m)) k) (sym (shows (job (finish F (passed m)) k) .idles staged) ∙ (ap L.idles is ∙ i))
+        one-true (idles (finish F (passed m)) k)
+        (sym (shows (job (finish F (passed m)) k) .idles staged) ∙ (ap L.idles is ∙ i))
 
   pub no-late : (F : ℕ) → lateSet m (finish F (passed m)) ≡ 0
   no-late F = where-empty _ _ (λ i l. not-late-task (suc i) (omega arith) (in-n i l) F _ (same-D i))

@@ -33,11 +33,13 @@ module _ (t : Table) (a : Safe t) (xs : List Report) (k : ℕ) (p : 1 ≤ k) (q 
   waits-still : (e : ℕ) → e < count s → waits (x e) ≡ 1 → starts s e k ≡ false → waits (x (suc e)) ≡ 1
   waits-still e l w none =
       sym (ap waits (does t a xs e l k p q))
-      ∙ rw none (waits-on (rows t k) (tops t k) (x e) (finishes s e k) (releases s e k) (rw none at (says t a xs e l k p q)) w)
+      ∙ rw none
+      (waits-on (rows t k) (tops t k) (x e) (finishes s e k) (releases s e k) (rw none at (says t a xs e l k p q)) w)
 
   module _ (i : ℕ) (released : releases s i k ≡ true) where
     born : i < count s → age (x (suc i)) ≡ 0
-    born l = sym (ap age (does t a xs i l k p q)) ∙ rw released (comes-age (rows t k) (tops t k) (x i) (finishes s i k) (starts s i k))
+    born l = sym (ap age (does t a xs i l k p q))
+        ∙ rw released (comes-age (rows t k) (tops t k) (x i) (finishes s i k) (starts s i k))
 
     waits-first : (e : ℕ) → i ≡ e → i < count s → starts s i k ≡ false → waits (x (suc e)) ≡ 1
     waits-first e z l none =
@@ -50,11 +52,13 @@ module _ (t : Table) (a : Safe t) (xs : List Report) (k : ℕ) (p : 1 ≤ k) (q 
         elim (ℕ-discrete (suc e) i) [
           | yes z ↦ waits-first (suc e) (sym z) (omega arith) (none i (omega arith) (omega arith))
           | no z ↦
-              waits-still (suc e) l (waiting e (omega arith) (omega arith) (λ d u v. none d u (omega arith))) (none (suc e) h (omega arith))
+              waits-still (suc e) l (waiting e (omega arith) (omega arith) (λ d u v. none d u (omega arith)))
+              (none (suc e) h (omega arith))
         ]
 
     -- from the release to state j + 1 the job is there
-    unfinished : (j : ℕ) → i ≤ j → j < count s → ((d : ℕ) → i ≤ d → d < j → starts s d k ≡ false) → idles (x (suc j)) ≡ 0
+    unfinished : (j : ℕ) → i ≤ j → j < count s
+        → ((d : ℕ) → i ≤ d → d < j → starts s d k ≡ false) → idles (x (suc j)) ≡ 0
         → Unfinished (lives s) k (suc i) (j - i)
     unfinished j h l none last = record { released = born (omega arith); since = there }
       where
@@ -63,7 +67,8 @@ module _ (t : Table) (a : Safe t) (xs : List Report) (k : ℕ) (p : 1 ≤ k) (q 
             let z : suc i + e ≡ suc (i + e) = omega arith in
             elim (ℕ-discrete (i + e) j) [
               | yes w ↦ rw (z, w) last
-              | no w ↦ rw z (waits-there (x (suc (i + e))) (waiting (i + e) (omega arith) (omega arith) (λ d u v. none d u (omega arith))))
+              | no w ↦ rw z (waits-there (x (suc (i + e)))
+                  (waiting (i + e) (omega arith) (omega arith) (λ d u v. none d u (omega arith))))
             ]
 
     module _ (j : ℕ) (h : i ≤ j) (l : j < count s) where

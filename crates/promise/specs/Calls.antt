@@ -1,6 +1,7 @@
--- The promise about what the functions return. By their contracts `quick_answer(t)` returns `quickAnswer t`, `set_up(old, t)` returns `setUp old t` and
--- `ticked(m, released, finished)` returns `tick m released finished`. Whoever is told that the table is admitted, sets up and goes on from what each tick
--- returns, over whatever machine was there before, sees the promise kept in the very values that were returned.
+-- The promise about what the functions return. By their contracts `quick_answer(t)` returns `quickAnswer t`,
+-- `set_up(old, t)` returns `setUp old t` and `ticked(m, released, finished)` returns `tick m released finished`.
+-- Whoever is told that the table is admitted, sets up and goes on from what each tick returns, over whatever machine
+-- was there before, sees the promise kept in the very values that were returned.
 use mathlib.Core.Path.{_≡_}
 use mathlib.Core.Bool.{true}
 use mathlib.Core.List.{List, [], _∷_}
@@ -17,7 +18,8 @@ use Rattle.machine.specs.Tick.{tick}
 use Rattle.promise.specs.Sequences.{Report, accepts, Step, step, counted}
 use Rattle.promise.specs.Promise.{Kept}
 
--- `rs` are returned by ticks on the reports, from machine m on, each called on the machine that the one before it returned
+-- `rs` are returned by ticks on the reports, from machine m on, each called on the machine that the one before it
+-- returned
 pub data Ticks : Machine → List Report → List Ticked → Type 0 where
   none : {m : Machine} → Ticks m [] []
   call : {m : Machine} {x : Report} {xs : List Report} {r : Ticked} {rs : List Ticked}

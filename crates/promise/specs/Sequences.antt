@@ -1,5 +1,6 @@
--- Sequences of ticks. A machine is told one report after another and goes on from the state that each leaves. The reports that it accepts are the ticks of the
--- sequence, numbered 0, 1, 2, ..; a refused report has no number. State 0 is the first state, and tick i leads from state i to state i + 1.
+-- Sequences of ticks. A machine is told one report after another and goes on from the state that each leaves. The
+-- reports that it accepts are the ticks of the sequence, numbered 0, 1, 2, ..; a refused report has no number. State 0
+-- is the first state, and tick i leads from state i to state i + 1.
 use Prim.Native.Nat.{ℕ, zero, suc}
 use mathlib.Core.Bool.{Bool, true, false}
 use mathlib.Core.List.{List, [], _∷_}

@@ -20,7 +20,8 @@ pub agree-end : (next : ℕ) (word bytes : List ℕ) (i : ℕ) → length word �
 unfolding agreeFrom
 agree-end next word bytes i h = rw (drop-of-length-le word h)
 
-pub agree-short : (text : List ℕ) (next : ℕ) (word : List ℕ) → length text ≤ next → agreeFrom next word (drop next text) ≡ next
+pub agree-short : (text : List ℕ) (next : ℕ) (word : List ℕ) → length text ≤ next
+    → agreeFrom next word (drop next text) ≡ next
 unfolding agreeFrom
 agree-short text next [] h = refl
 agree-short text next (b ∷ word) h = rw (drop-of-length-le text h)
@@ -28,12 +29,14 @@ agree-short text next (b ∷ word) h = rw (drop-of-length-le text h)
 module _ (text : List ℕ) (next : ℕ) (word : List ℕ) (i : ℕ) (inside : next < length text) (more : i < length word) where
   pub agree-other : (getD text next 0 ≡ getD word i 0 → ⊥) → agreeFrom next (drop i word) (drop next text) ≡ next
   unfolding agreeFrom
-  agree-other h = rw (drop-cons text next 0 inside, drop-cons word i 0 more) (rw (ne-eqb (getD text next 0) (getD word i 0) h))
+  agree-other h =
+      rw (drop-cons text next 0 inside, drop-cons word i 0 more) (rw (ne-eqb (getD text next 0) (getD word i 0) h))
 
   pub agree-more : getD text next 0 ≡ getD word i 0
       → agreeFrom next (drop i word) (drop next text) ≡ agreeFrom (next + 1) (drop (i + 1) word) (drop (next + 1) text)
   unfolding agreeFrom
-  agree-more h = rw (add-one, add-one) (rw (drop-cons text next 0 inside, drop-cons word i 0 more) (rw (eq-eqb (getD text next 0) (getD word i 0) h)))
+  agree-more h = rw (add-one, add-one)
+      (rw (drop-cons text next 0 inside, drop-cons word i 0 more) (rw (eq-eqb (getD text next 0) (getD word i 0) h)))
 
 pub digit-low : (c : ℕ) → c < 48 → isDigit c ≡ false
 digit-low c h = rw (lt-leb 48 c h)
@@ -53,7 +56,8 @@ module _ (most : ℕ) where
   unfolding grow
   grow-none c = let e : 10 * 0 + (c - 48) ≡ c - 48 = omega arith in rw e (go (isDigit c && leb (c - 48) most))
     where
-      go : (b : Bool) → keep b (c - 48) ≡ kept (cond b (record { may = true; value = c - 48 }) (record { may = false; value = 0 }))
+      go : (b : Bool)
+          → keep b (c - 48) ≡ kept (cond b (record { may = true; value = c - 48 }) (record { may = false; value = 0 }))
       go true = refl
       go false = refl
 
@@ -82,11 +86,13 @@ module _ (most : ℕ) where
   pub grown-large : (v c : ℕ) → most < 10 * v + (c - 48) → grownTo most v c ≡ record { may = false; value = 0 }
   grown-large v c h = rw (lt-leb (10 * v + (c - 48)) most h) (go (isDigit c))
     where
-      go : (b : Bool) → cond {A = Grown} (b && false) (record { may = true; value = 10 * v + (c - 48) }) (record { may = false; value = 0 }) ≡ record { may = false; value = 0 }
+      go : (b : Bool) → cond {A = Grown} (b && false) (record { may = true; value = 10 * v + (c - 48) })
+          (record { may = false; value = 0 }) ≡ record { may = false; value = 0 }
       go true = refl
       go false = refl
 
-  pub grown-fits : (v c : ℕ) → 48 ≤ c → c ≤ 57 → 10 * v + (c - 48) ≤ most → grownTo most v c ≡ record { may = true; value = 10 * v + (c - 48) }
+  pub grown-fits : (v c : ℕ) → 48 ≤ c → c ≤ 57 → 10 * v + (c - 48) ≤ most
+      → grownTo most v c ≡ record { may = true; value = 10 * v + (c - 48) }
   grown-fits v c l m h = rw (le-leb 48 c l, le-leb c 57 m, le-leb (10 * v + (c - 48)) most h)
 
   pub room-left : (v d : ℕ) → 10 * v ≤ most → leb d (most - 10 * v) ≡ leb (10 * v + d) most
@@ -100,7 +106,8 @@ module _ (most : ℕ) where
     unfolding numberFrom
     number-short at h = rw (drop-of-length-le text h)
 
-    pub number-end : (next v : ℕ) → length text ≤ next → numberFrom most next (some v) (drop next text) ≡ record { value = v; next = next }
+    pub number-end : (next v : ℕ) → length text ≤ next
+        → numberFrom most next (some v) (drop next text) ≡ record { value = v; next = next }
     unfolding numberFrom
     number-end next v h = rw (drop-of-length-le text h)
 
@@ -122,12 +129,15 @@ module _ (most : ℕ) where
         pub number-not : x .may ≡ false → numberAt most text next ≡ record { value = 0; next = next }
         number-not h = halts none (grow-none _ ∙ rw (← e, h))
 
-        pub number-first : x .may ≡ true → numberAt most text next ≡ numberFrom most (next + 1) (some (x .value)) (drop (next + 1) text)
+        pub number-first : x .may ≡ true
+            → numberAt most text next ≡ numberFrom most (next + 1) (some (x .value)) (drop (next + 1) text)
         number-first h = goes none (x .value) (grow-none _ ∙ rw (← e, h))
 
       module _ (v : ℕ) (above : 0 < v) (x : Grown) (e : x ≡ grownTo most v (getD text next 0)) where
-        pub number-stop : x .may ≡ false → numberFrom most next (some v) (drop next text) ≡ record { value = v; next = next }
+        pub number-stop : x .may ≡ false
+            → numberFrom most next (some v) (drop next text) ≡ record { value = v; next = next }
         number-stop h = halts (some v) (grow-some v _ above ∙ rw (← e, h))
 
-        pub number-more : x .may ≡ true → numberFrom most next (some v) (drop next text) ≡ numberFrom most (next + 1) (some (x .value)) (drop (next + 1) text)
+        pub number-more : x .may ≡ true → numberFrom most next (some v) (drop next text)
+            ≡ numberFrom most (next + 1) (some (x .value)) (drop (next + 1) text)
         number-more h = goes (some v) (x .value) (grow-some v _ above ∙ rw (← e, h))

@@ -22,16 +22,19 @@ same-platform : (numbers row : List ℕ) → numbers ≡ padded mostColumns 0 ro
 same-platform numbers row e =
     ap platformOf e ∙ rw (getD-padded 0 mostColumns row 0 (lit< tt), getD-padded 0 mostColumns row 1 (lit< tt))
 
-module _ (text : List ℕ) (k : ℕ) (e : k ≡ agreeAt text 0 (platformForm .header ++ crlf)) (h : 18 ≤ k) (x : Row) (f : x ≡ rowAt text k platformForm) where
+module _ (text : List ℕ) (k : ℕ) (e : k ≡ agreeAt text 0 (platformForm .header ++ crlf)) (h : 18 ≤ k) (x : Row)
+    (f : x ≡ rowAt text k platformForm) where
   pub cut-row : x .whole ≡ false → read platformForm text ≡ refused (x .next)
-  cut-row g = head-good platformForm text k e h ∙ must-begin platformForm text [] k refl refl ∙ row-bad platformForm text [] k x f g
+  cut-row g = head-good platformForm text k e h ∙ must-begin platformForm text [] k refl refl
+      ∙ row-bad platformForm text [] k x f g
 
   module _ (g : x .whole ≡ true) where
     abbrev row : List ℕ
     row = row-good platformForm text [] k x f g .row
 
     behind : read platformForm text ≡ Along.from platformForm text (x .next) (word (row ∷ []) [])
-    behind = head-good platformForm text k e h ∙ must-begin platformForm text [] k refl refl ∙ row-good platformForm text [] k x f g .on
+    behind = head-good platformForm text k e h ∙ must-begin platformForm text [] k refl refl
+        ∙ row-good platformForm text [] k x f g .on
 
     pub second-row : x .next < length text → read platformForm text ≡ refused (x .next)
     second-row l = behind ∙ closed platformForm text (row ∷ []) (x .next) refl l
@@ -42,4 +45,5 @@ module _ (text : List ℕ) (k : ℕ) (e : k ≡ agreeAt text 0 (platformForm .he
     one-row l =
         let r = row-good platformForm text [] k x f g in
         ap platformRead (behind ∙ ends platformForm text (row ∷ []) (x .next) refl l)
-        ∙ ap (λ (p : Platform). record { refused = noRefusal; platform = p }) (sym (same-platform (x .numbers) row (r .numbers)))
+        ∙ ap (λ (p : Platform). record { refused = noRefusal; platform = p })
+        (sym (same-platform (x .numbers) row (r .numbers)))

@@ -22,7 +22,8 @@ use Rattle.forms.proofs.Sizes.{within-getD}
 use Rattle.readers.specs.declared.Number.{Number}
 use Rattle.readers.specs.declared.Cell.{Cell}
 use Rattle.readers.specs.declared.Row.{Row}
-use Rattle.readers.specs.Places.{agreeFrom, agreeAt, numberFrom, numberAt, endedBy, cellAt, mostColumns, rowFrom, rowAt}
+use Rattle.readers.specs.Places.{agreeFrom, agreeAt, numberFrom, numberAt, endedBy, cellAt, mostColumns, rowFrom}
+use Rattle.readers.specs.Places.{rowAt}
 use Rattle.readers.specs.Code.Digits.{Narrow}
 
 agree-bound : (next : ℕ) (word bytes : List ℕ) → agreeFrom next word bytes ≤ next + length bytes
@@ -56,15 +57,20 @@ pub record Bounded (most next : ℕ) (bytes : List ℕ) (x : Number) : Type 0 wh
   pub low : next ≤ x .next
   pub fits : x .value ≤ most
 
-pub number-bounded : (most next : ℕ) (v : Option ℕ) (bytes : List ℕ) → Option·getD v 0 ≤ most → Bounded most next bytes (numberFrom most next v bytes)
+pub number-bounded : (most next : ℕ) (v : Option ℕ) (bytes : List ℕ) → Option·getD v 0 ≤ most
+    → Bounded most next bytes (numberFrom most next v bytes)
 unfolding numberFrom
 number-bounded most next v [] h = record { far = omega arith; low = omega arith; fits = h }
-number-bounded most next v (c ∷ bytes) h = go (grow most v c) (grown most v c) (λ w f. number-bounded most (suc next) (some w) bytes f)
+number-bounded most next v (c ∷ bytes) h =
+    go (grow most v c) (grown most v c) (λ w f. number-bounded most (suc next) (some w) bytes f)
   where
-    go : (o : Option ℕ) → GrownIf most v c o → ((w : ℕ) → w ≤ most → Bounded most (suc next) bytes (numberFrom most (suc next) (some w) bytes))
-        → Bounded most next (c ∷ bytes) (elim o as (λ o. Number) [ none ↦ record { value = Option·getD v 0; next = next } | some w ↦ numberFrom most (suc next) (some w) bytes ])
+    go : (o : Option ℕ) → GrownIf most v c o
+        → ((w : ℕ) → w ≤ most → Bounded most (suc next) bytes (numberFrom most (suc next) (some w) bytes))
+        → Bounded most next (c ∷ bytes) (elim o as (λ o. Number)
+        [ none ↦ record { value = Option·getD v 0; next = next } | some w ↦ numberFrom most (suc next) (some w) bytes ])
     go none f known = record { far = omega arith; low = omega arith; fits = h }
-    go (some w) f known = let b = known w (f .fits) in record { far = omega (arith, b .far); low = omega (arith, b .low); fits = b .fits }
+    go (some w) f known = let b = known w (f .fits) in
+        record { far = omega (arith, b .far); low = omega (arith, b .low); fits = b .fits }
 
 pub number-at-bounded : (most : ℕ) (text : List ℕ) (at : ℕ) → Bounded most at (drop at text) (numberAt most text at)
 number-at-bounded most text at = number-bounded most at none (drop at text) (omega arith)
@@ -73,11 +79,13 @@ pub number-inside : (most : ℕ) (text : List ℕ) (at : ℕ) → at ≤ length 
 number-inside most text at h = omega (arith, number-at-bounded most text at .far, length-drop at text)
 
 module _ (most : ℕ) (text : List ℕ) (at : ℕ) (word : List ℕ) where
-  pub cell-none : numberAt most text at .next ≡ at → cellAt most text at word ≡ record { value = 0; next = at; whole = false }
+  pub cell-none : numberAt most text at .next ≡ at
+      → cellAt most text at word ≡ record { value = 0; next = at; whole = false }
   unfolding cellAt
   cell-none e = rw (eq-eqb (numberAt most text at .next) at e)
 
-  pub cell-some : (x : Number) → x ≡ numberAt most text at → (x .next ≡ at → ⊥) → (end : ℕ) → end ≡ agreeAt text (x .next) word
+  pub cell-some : (x : Number) → x ≡ numberAt most text at → (x .next ≡ at → ⊥) → (end : ℕ)
+      → end ≡ agreeAt text (x .next) word
       → record { value = x .value; next = end; whole = eqb end (x .next + length word) } ≡ cellAt most text at word
   unfolding cellAt
   cell-some x e there end f = rw (← e, ne-eqb (x .next) at there, f)
@@ -86,7 +94,8 @@ module _ (most : ℕ) (text : List ℕ) (at : ℕ) (word : List ℕ) where
   unfolding cellAt
   cell-inside h = go (eqb (numberAt most text at .next) at)
     where
-      go : (b : Bool) → cond b (record { value = 0; next = at; whole = false }) (endedBy text word (numberAt most text at)) .next ≤ length text
+      go : (b : Bool) → cond b (record { value = 0; next = at; whole = false })
+          (endedBy text word (numberAt most text at)) .next ≤ length text
       go true = h
       go false = agree-inside text (numberAt most text at .next) word (number-inside most text at h)
 
@@ -94,7 +103,8 @@ module _ (most : ℕ) (text : List ℕ) (at : ℕ) (word : List ℕ) where
   unfolding cellAt
   cell-most = go (eqb (numberAt most text at .next) at)
     where
-      go : (b : Bool) → cond b (record { value = 0; next = at; whole = false }) (endedBy text word (numberAt most text at)) .value ≤ most
+      go : (b : Bool) → cond b (record { value = 0; next = at; whole = false })
+          (endedBy text word (numberAt most text at)) .value ≤ most
       go true = omega arith
       go false = number-at-bounded most text at .fits
 
@@ -102,25 +112,30 @@ module _ (most : ℕ) (text : List ℕ) (at : ℕ) (word : List ℕ) where
 module _ (text numbers mosts : List ℕ) (j next : ℕ) (less : j < length mosts) (x : Cell)
     (e : x ≡ cellAt (getD mosts j 0) text next (ending (length mosts - j - 1))) where
   this : rowFrom text numbers (drop j mosts) next
-      ≡ cond (x .whole) (rowFrom text (numbers ++ (x .value ∷ [])) (drop (j + 1) mosts) (x .next)) (record { numbers = padded mostColumns 0 []; next = x .next; whole = false })
+      ≡ cond (x .whole) (rowFrom text (numbers ++ (x .value ∷ [])) (drop (j + 1) mosts) (x .next))
+      (record { numbers = padded mostColumns 0 []; next = x .next; whole = false })
   unfolding rowFrom
   this =
       let left : length (drop (suc j) mosts) ≡ length mosts - j - 1 = length-drop (suc j) mosts ∙ omega arith in
       rw add-one (rw (drop-cons mosts j 0 less) (rw (left, ← e)))
 
-  pub row-more : x .whole ≡ true → rowFrom text numbers (drop j mosts) next ≡ rowFrom text (numbers ++ (x .value ∷ [])) (drop (j + 1) mosts) (x .next)
+  pub row-more : x .whole ≡ true → rowFrom text numbers (drop j mosts) next
+      ≡ rowFrom text (numbers ++ (x .value ∷ [])) (drop (j + 1) mosts) (x .next)
   row-more h = this ∙ rw h
 
-  pub row-stop : x .whole ≡ false → rowFrom text numbers (drop j mosts) next ≡ record { numbers = padded mostColumns 0 []; next = x .next; whole = false }
+  pub row-stop : x .whole ≡ false → rowFrom text numbers (drop j mosts) next
+      ≡ record { numbers = padded mostColumns 0 []; next = x .next; whole = false }
   row-stop h = this ∙ rw h
 
 pub row-end : (text numbers mosts : List ℕ) (j next : ℕ) → length mosts ≤ j
-    → rowFrom text numbers (drop j mosts) next ≡ record { numbers = padded mostColumns 0 numbers; next = next; whole = true }
+    → rowFrom text numbers (drop j mosts) next
+    ≡ record { numbers = padded mostColumns 0 numbers; next = next; whole = true }
 unfolding rowFrom
 row-end text numbers mosts j next h = rw (drop-of-length-le mosts {i = j} h)
 
 module _ (text : List ℕ) where
-  pub row-inside : (numbers mosts : List ℕ) (at : ℕ) → at ≤ length text → rowFrom text numbers mosts at .next ≤ length text
+  pub row-inside : (numbers mosts : List ℕ) (at : ℕ) → at ≤ length text
+      → rowFrom text numbers mosts at .next ≤ length text
   unfolding rowFrom
   row-inside numbers [] at h = h
   row-inside numbers (most ∷ mosts) at h =
@@ -128,11 +143,14 @@ module _ (text : List ℕ) where
       let inside = cell-inside most text at (ending (length mosts)) h in
       go c inside (row-inside (numbers ++ (c .value ∷ [])) mosts (c .next) inside)
     where
-      go : (c : Cell) → c .next ≤ length text → rowFrom text (numbers ++ (c .value ∷ [])) mosts (c .next) .next ≤ length text
-          → cond (c .whole) (rowFrom text (numbers ++ (c .value ∷ [])) mosts (c .next)) (record { numbers = padded mostColumns 0 []; next = c .next; whole = false }) .next ≤ length text
+      go : (c : Cell) → c .next ≤ length text
+          → rowFrom text (numbers ++ (c .value ∷ [])) mosts (c .next) .next ≤ length text
+          → cond (c .whole) (rowFrom text (numbers ++ (c .value ∷ [])) mosts (c .next))
+          (record { numbers = padded mostColumns 0 []; next = c .next; whole = false }) .next ≤ length text
       go c f g = by (c .whole)
         where
-          by : (b : Bool) → cond b (rowFrom text (numbers ++ (c .value ∷ [])) mosts (c .next)) (record { numbers = padded mostColumns 0 []; next = c .next; whole = false }) .next ≤ length text
+          by : (b : Bool) → cond b (rowFrom text (numbers ++ (c .value ∷ [])) mosts (c .next))
+              (record { numbers = padded mostColumns 0 []; next = c .next; whole = false }) .next ≤ length text
           by true = g
           by false = f
 
@@ -143,16 +161,24 @@ module _ (text : List ℕ) where
   row-within past numbers [] at i w l = rw (append-nil past, getD-padded 0 mostColumns numbers i l) (within-getD w i)
   row-within past numbers (most ∷ mosts) at i w l =
       let c = cellAt most text at (ending (length mosts)) in
-      by (c .whole) (rw append-assoc at (row-within (past ++ (most ∷ [])) (numbers ++ (c .value ∷ [])) mosts (c .next) i (within-snoc w (cell-most most text at (ending (length mosts)))) l))
+      by (c .whole) (rw append-assoc at (row-within (past ++ (most ∷ [])) (numbers ++ (c .value ∷ [])) mosts (c .next) i
+      (within-snoc w (cell-most most text at (ending (length mosts)))) l))
     where
       by : (b : Bool)
-          → getD (rowFrom text (numbers ++ (cellAt most text at (ending (length mosts)) .value ∷ [])) mosts (cellAt most text at (ending (length mosts)) .next) .numbers) i 0 ≤ getD (past ++ (most ∷ mosts)) i 0
-          → getD (cond b (rowFrom text (numbers ++ (cellAt most text at (ending (length mosts)) .value ∷ [])) mosts (cellAt most text at (ending (length mosts)) .next)) (record { numbers = padded mostColumns 0 []; next = cellAt most text at (ending (length mosts)) .next; whole = false }) .numbers) i 0
+          → getD (rowFrom text (numbers ++ (cellAt most text at (ending (length mosts)) .value ∷ [])) mosts
+          (cellAt most text at (ending (length mosts)) .next) .numbers) i 0 ≤ getD (past ++ (most ∷ mosts)) i 0
+          → getD (cond b (rowFrom text (numbers ++ (cellAt most text at (ending (length mosts)) .value ∷ [])) mosts
+          (cellAt most text at (ending (length mosts)) .next)) (record {
+            numbers = padded mostColumns 0 [];
+            next = cellAt most text at (ending (length mosts)) .next;
+            whole = false;
+          }) .numbers) i 0
           ≤ getD (past ++ (most ∷ mosts)) i 0
       by true h = h
       by false h = rw (getD-padded {A = ℕ} 0 mostColumns [] i l) (omega arith)
 
-  pub row-most : (mosts : List ℕ) (at i : ℕ) → i < mostColumns → getD (rowFrom text [] mosts at .numbers) i 0 ≤ getD mosts i 0
+  pub row-most : (mosts : List ℕ) (at i : ℕ) → i < mostColumns
+      → getD (rowFrom text [] mosts at .numbers) i 0 ≤ getD mosts i 0
   row-most mosts at i l = row-within [] [] mosts at i Forms.none l
 
 replicate-most : (n i : ℕ) → getD (replicate n largest) i 0 ≤ largest
@@ -160,7 +186,9 @@ replicate-most zero i = omega arith
 replicate-most (suc n) zero = omega arith
 replicate-most (suc n) (suc i) = replicate-most n i
 
-pub row-narrow : (F : Form) (n : ℕ) → columns F ≡ replicate n largest → (text : List ℕ) (at : ℕ) (x : Row) → x ≡ rowAt text at F → Narrow (x .numbers)
+pub row-narrow : (F : Form) (n : ℕ) → columns F ≡ replicate n largest → (text : List ℕ) (at : ℕ) (x : Row)
+    → x ≡ rowAt text at F → Narrow (x .numbers)
 row-narrow F n shape text at x e i l =
-    let most : getD (columns F) i 0 ≤ largest = subst (λ (ms : List ℕ). getD ms i 0 ≤ largest) (sym shape) (replicate-most n i) in
+    let most : getD (columns F) i 0 ≤ largest =
+    subst (λ (ms : List ℕ). getD ms i 0 ≤ largest) (sym shape) (replicate-most n i) in
     rw e (le-trans (row-most text (columns F) at i l) most)

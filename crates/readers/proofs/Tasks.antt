@@ -25,11 +25,16 @@ use Rattle.readers.proofs.Texts.{Line, line-start, line-end, line-bad, 
 same-task : (numbers row : List ℕ) → numbers ≡ padded mostColumns 0 row → taskOf numbers ≡ taskOf row
 same-task numbers row e =
     ap taskOf e
-    ∙ rw (getD-padded 0 mostColumns row 0 (lit< tt), getD-padded 0 mostColumns row 1 (lit< tt), getD-padded 0 mostColumns row 2 (lit< tt), getD-padded 0 mostColumns row 3 (lit< tt))
+    ∙ rw (
+      getD-padded 0 mostColumns row 0 (lit< tt),
+      getD-padded 0 mostColumns row 1 (lit< tt),
+      getD-padded 0 mostColumns row 2 (lit< tt),
+      getD-padded 0 mostColumns row 3 (lit< tt),
+    )
 
 module _ (kept : List Task) (rows : List (List ℕ)) (n : ℕ) where
-  keep-more : (task : Task) (row : List ℕ) → n ≡ length rows → kept ≡ padded mostTasks noTask (map taskOf rows) → n < mostTasks → task ≡ taskOf row
-      → set kept n task ≡ padded mostTasks noTask (map taskOf (rows ++ (row ∷ [])))
+  keep-more : (task : Task) (row : List ℕ) → n ≡ length rows → kept ≡ padded mostTasks noTask (map taskOf rows)
+      → n < mostTasks → task ≡ taskOf row → set kept n task ≡ padded mostTasks noTask (map taskOf (rows ++ (row ∷ [])))
   keep-more task row count keeps less t =
       let size : length (map taskOf rows) ≡ n = length-map rows taskOf ∙ sym count in
       sym
@@ -43,7 +48,8 @@ module _ (kept : List Task) (rows : List (List ℕ)) (n : ℕ) where
       let size : length (map taskOf rows) ≡ n = length-map rows taskOf ∙ sym count in
       keeps
       ∙ sym
-      (ap (padded mostTasks noTask) (map-append taskOf rows (row ∷ [])) ∙ padded-full noTask mostTasks (map taskOf rows) (taskOf row ∷ []) (omega arith))
+      (ap (padded mostTasks noTask) (map-append taskOf rows (row ∷ []))
+      ∙ padded-full noTask mostTasks (map taskOf rows) (taskOf row ∷ []) (omega arith))
 
 -- at a line's beginning, with the tasks that are kept
 pub record Here (text : List ℕ) (at : ℕ) (kept : List Task) (n : ℕ) : Type 0 where
@@ -51,14 +57,17 @@ pub record Here (text : List ℕ) (at : ℕ) (kept : List Task) (n : ℕ) : Type
   pub line : Line tasksForm text rows at n
   pub keeps : kept ≡ padded mostTasks noTask (map taskOf rows)
 
-pub here-start : (text : List ℕ) (k : ℕ) → k ≡ agreeAt text 0 (tasksForm .header ++ crlf) → 9 ≤ k → Here text k (replicate mostTasks noTask) 0
+pub here-start : (text : List ℕ) (k : ℕ) → k ≡ agreeAt text 0 (tasksForm .header ++ crlf) → 9 ≤ k
+    → Here text k (replicate mostTasks noTask) 0
 here-start text k e h =
     record { rows = []; line = line-start tasksForm refl text k e h; keeps = sym (padded-none noTask mostTasks) }
 
 module _ (text : List ℕ) (at : ℕ) (kept : List Task) (n : ℕ) (h : Here text at kept n) where
   pub here-end : (platform : Platform) → length text ≤ at
-      → tableRead platform (read tasksForm text) ≡ record { refused = noRefusal; table = record { platform = platform; n = n; rows = kept } }
-  here-end platform l = ap (tableRead platform) (line-end tasksForm refl text (h .rows) at n (h .line) l) ∙ rw (h .line .count, h .keeps, length-map (h .rows) taskOf)
+      → tableRead platform (read tasksForm text)
+      ≡ record { refused = noRefusal; table = record { platform = platform; n = n; rows = kept } }
+  here-end platform l = ap (tableRead platform) (line-end tasksForm refl text (h .rows) at n (h .line) l)
+      ∙ rw (h .line .count, h .keeps, length-map (h .rows) taskOf)
 
   module _ (less : at < length text) (x : Row) (e : x ≡ rowAt text at tasksForm) where
     pub here-bad : x .whole ≡ false → read tasksForm text ≡ refused (x .next)
@@ -75,7 +84,8 @@ module _ (text : List ℕ) (at : ℕ) (kept : List Task) (n : ℕ) (h : Here tex
       unfolding row-on
       next-line = line-next tasksForm refl text (h .rows) at n (h .line) less x e f
 
-      pub here-kept : n < mostTasks → (task : Task) → task ≡ taskOf (x .numbers) → Here text (x .next) (set kept n task) (n + 1)
+      pub here-kept : n < mostTasks → (task : Task) → task ≡ taskOf (x .numbers)
+          → Here text (x .next) (set kept n task) (n + 1)
       here-kept room task t =
           let same = t ∙ same-task (x .numbers) (row-on .row) (row-on .numbers) in
           record {

@@ -28,7 +28,8 @@ module _ (F : Form) (text : List ℕ) where
   head = F .header ++ crlf
 
   -- the header, and CR LF
-  pub head-bad : (k : ℕ) → k ≡ agreeAt text 0 (F .header ++ crlf) → k < length (F .header ++ crlf) → read F text ≡ refused k
+  pub head-bad : (k : ℕ) → k ≡ agreeAt text 0 (F .header ++ crlf) → k < length (F .header ++ crlf)
+      → read F text ≡ refused k
   head-bad k e l = Along.whole F text ∙ go (agreed F text [] head 0) ∙ ap refused (sym e)
     where
       go : Agreed F text [] head 0 → from F text 0 (word [] head) ≡ refused (agreeAt text 0 head)
@@ -38,19 +39,22 @@ module _ (F : Form) (text : List ℕ) where
           no f = omega arith
       go (differs f h) = h
 
-  pub head-good : (k : ℕ) → k ≡ agreeAt text 0 (F .header ++ crlf) → length (F .header ++ crlf) ≤ k → read F text ≡ from F text k (word [] [])
+  pub head-good : (k : ℕ) → k ≡ agreeAt text 0 (F .header ++ crlf) → length (F .header ++ crlf) ≤ k
+      → read F text ≡ from F text k (word [] [])
   head-good k e l = Along.whole F text ∙ go (agreed F text [] head 0)
     where
       go : Agreed F text [] head 0 → from F text 0 (word [] head) ≡ from F text k (word [] [])
       go (agrees f h) = h ∙ ap (λ (n : ℕ). from F text n (word [] [])) (sym f ∙ sym e)
       go (differs f h) = absurd (f (let m = agree-most 0 head text in omega arith))
 
-  pub ends : (rows : List (List ℕ)) (at : ℕ) → mayEnd (F .one) rows ≡ true → length text ≤ at → from F text at (word rows []) ≡ found rows
+  pub ends : (rows : List (List ℕ)) (at : ℕ) → mayEnd (F .one) rows ≡ true → length text ≤ at
+      → from F text at (word rows []) ≡ found rows
   unfolding rowsAt
   ends rows at e h = short F text at (word rows []) h ∙ rw e
 
   -- no row may begin
-  pub closed : (rows : List (List ℕ)) (at : ℕ) → mayBegin (F .one) rows ≡ false → at < length text → from F text at (word rows []) ≡ refused at
+  pub closed : (rows : List (List ℕ)) (at : ℕ) → mayBegin (F .one) rows ≡ false → at < length text
+      → from F text at (word rows []) ≡ refused at
   unfolding step
   closed rows at e l = halt F text at (word rows []) l (rw e)
 
@@ -64,10 +68,12 @@ module _ (F : Form) (text : List ℕ) where
     begin-step e c = rw e
 
     -- a row begins where the text goes on, or where it may not end
-    pub begins : mayBegin (F .one) rows ≡ true → at < length text → from F text at (word rows []) ≡ from F text at opening
+    pub begins : mayBegin (F .one) rows ≡ true → at < length text
+        → from F text at (word rows []) ≡ from F text at opening
     begins e l = alike-inside F text at (word rows []) opening l (begin-step e (getD text at 0))
 
-    pub must-begin : mayBegin (F .one) rows ≡ true → mayEnd (F .one) rows ≡ false → from F text at (word rows []) ≡ from F text at opening
+    pub must-begin : mayBegin (F .one) rows ≡ true → mayEnd (F .one) rows ≡ false
+        → from F text at (word rows []) ≡ from F text at opening
     unfolding rowsAt
     must-begin e f = alike F text at (word rows []) opening (rw f) (λ l. begin-step e (getD text at 0))
 
@@ -94,7 +100,8 @@ pub record Line (F : Form) (text : List ℕ) (rows : List (List ℕ)) (at n : �
   pub few : n ≤ at
 
 module _ (F : Form) (many : F .one ≡ false) (text : List ℕ) where
-  pub line-start : (k : ℕ) → k ≡ agreeAt text 0 (F .header ++ crlf) → length (F .header ++ crlf) ≤ k → Line F text [] k 0
+  pub line-start : (k : ℕ) → k ≡ agreeAt text 0 (F .header ++ crlf)
+      → length (F .header ++ crlf) ≤ k → Line F text [] k 0
   line-start k e h =
       record {
         on = head-good F text k e h;

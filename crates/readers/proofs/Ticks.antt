@@ -27,22 +27,27 @@ abbrev pub Rest : List ℕ → ℕ → List (List ℕ) → Type 0
 Rest text at rows = from ticksForm text at (word [] []) ≡ found rows
 
 same-tick : (numbers row : List ℕ) → numbers ≡ padded mostColumns 0 row → tickOf numbers ≡ tickOf row
-same-tick numbers row e = ap tickOf e ∙ rw (getD-padded 0 mostColumns row 0 (lit< tt), getD-padded 0 mostColumns row 1 (lit< tt))
+same-tick numbers row e = ap tickOf e
+    ∙ rw (getD-padded 0 mostColumns row 0 (lit< tt), getD-padded 0 mostColumns row 1 (lit< tt))
 
 -- a first row, and what follows it
-split : (row : List ℕ) (text : List ℕ) (at : ℕ) (rows : List (List ℕ)) → from ticksForm text at (word (row ∷ []) []) ≡ found rows
+split : (row : List ℕ) (text : List ℕ) (at : ℕ) (rows : List (List ℕ))
+    → from ticksForm text at (word (row ∷ []) []) ≡ found rows
     → (more : List (List ℕ)) × (rows ≡ row ∷ more) × Rest text at more
 split row text at rows e = go (run (step ticksForm) (rowsAt ticksForm) (word [] []) (drop at text)) refl
   where
-    like : from ticksForm text at (word (row ∷ []) []) ≡ later at (prefixed (row ∷ []) (run (step ticksForm) (rowsAt ticksForm) (word [] []) (drop at text)))
+    like : from ticksForm text at (word (row ∷ []) [])
+        ≡ later at (prefixed (row ∷ []) (run (step ticksForm) (rowsAt ticksForm) (word [] []) (drop at text)))
     like = ap (later at) (shift-run (row ∷ []) ticksForm refl (word [] []) (drop at text))
 
     go : (x : Answer (List (List ℕ))) → run (step ticksForm) (rowsAt ticksForm) (word [] []) (drop at text) ≡ x
         → (more : List (List ℕ)) × (rows ≡ row ∷ more) × Rest text at more
     go (found more) h =
-        let same : found rows ≡ found (row ∷ more) = sym e ∙ like ∙ ap (λ (x : Answer (List (List ℕ))). later at (prefixed (row ∷ []) x)) h in
+        let same : found rows ≡ found (row ∷ more) =
+        sym e ∙ like ∙ ap (λ (x : Answer (List (List ℕ))). later at (prefixed (row ∷ []) x)) h in
         (more, cc, ap (later at) h)
-    go (refused k) h = absurd (no (sym e ∙ like ∙ ap (λ (x : Answer (List (List ℕ))). later at (prefixed (row ∷ []) x)) h))
+    go (refused k) h =
+        absurd (no (sym e ∙ like ∙ ap (λ (x : Answer (List (List ℕ))). later at (prefixed (row ∷ []) x)) h))
       where
         no : found rows ≡ refused (at + k) → ⊥
         no e = let z : _≡_ {A = ℕ} 0 1 = cc in omega arith
@@ -56,8 +61,10 @@ ticks-start text rows e = go (decLt (agreeAt text 0 (ticksForm .header ++ crlf))
         no : found rows ≡ refused (agreeAt text 0 (ticksForm .header ++ crlf)) → ⊥
         no e = let z : _≡_ {A = ℕ} 0 1 = cc in omega arith
     go (no g) =
-        let all : agreeAt text 0 (ticksForm .header ++ crlf) ≡ firstTick = omega (arith, agree-most 0 (ticksForm .header ++ crlf) text) in
-        ap (λ (n : ℕ). from ticksForm text n (word [] [])) (sym all) ∙ sym (head-good ticksForm text _ refl (omega arith)) ∙ e
+        let all : agreeAt text 0 (ticksForm .header ++ crlf) ≡ firstTick =
+        omega (arith, agree-most 0 (ticksForm .header ++ crlf) text) in
+        ap (λ (n : ℕ). from ticksForm text n (word [] [])) (sym all)
+        ∙ sym (head-good ticksForm text _ refl (omega arith)) ∙ e
 
 pub ticks-end : (text : List ℕ) (at : ℕ) (rows : List (List ℕ)) → Rest text at rows → length text ≤ at → rows ≡ []
 ticks-end text at rows e h =
@@ -73,7 +80,8 @@ pub record TickOn (text : List ℕ) (at : ℕ) (rows : List (List ℕ)) : Type 0
   pub inside : tickAt text at .next ≤ length text
   pub rest : Rest text (tickAt text at .next) more
 
-pub ticks-next : (text : List ℕ) (at : ℕ) (rows : List (List ℕ)) → Rest text at rows → at < length text → TickOn text at rows
+pub ticks-next : (text : List ℕ) (at : ℕ) (rows : List (List ℕ)) → Rest text at rows
+    → at < length text → TickOn text at rows
 unfolding tickAt
 ticks-next text at rows e l = go (rowAt text at ticksForm .whole) refl
   where
@@ -98,7 +106,8 @@ ticks-next text at rows e l = go (rowAt text at ticksForm .whole) refl
         no : found rows ≡ refused (rowAt text at ticksForm .next) → ⊥
         no e = let z : _≡_ {A = ℕ} 0 1 = cc in omega arith
 
-pub tick-short : (text : List ℕ) (at : ℕ) → length text ≤ at → tickAt text at ≡ record { tick = record { released = 0; finished = 0 }; next = at }
+pub tick-short : (text : List ℕ) (at : ℕ) → length text ≤ at
+    → tickAt text at ≡ record { tick = record { released = 0; finished = 0 }; next = at }
 unfolding tickAt rowFrom cellAt padded
 tick-short text at h =
     let n : numberAt largest text at ≡ record { value = 0; next = at } = number-short largest text at h in

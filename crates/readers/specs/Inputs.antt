@@ -1,5 +1,5 @@
--- What the rows of a text say: a platform, a table, ticks. A text that is not of its form is refusal 15 with the offset, and then
--- everything else is 0. Of the tasks every row is counted and the first 32 are kept.
+-- What the rows of a text say: a platform, a table, ticks. A text that is not of its form is refusal 15 with the
+-- offset, and then everything else is 0. Of the tasks every row is counted and the first 32 are kept.
 use Prim.Native.Nat.{ℕ}
 use mathlib.Core.List.{List, [], _++_, map}
 use lib.ListN.{length, getD}

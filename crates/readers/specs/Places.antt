@@ -1,5 +1,5 @@
--- What stands at a place of a text: fixed bytes, a number, a number with what ends it, a row. Each is read as far as it goes, and
--- says where that is.
+-- What stands at a place of a text: fixed bytes, a number, a number with what ends it, a row. Each is read as far as it
+-- goes, and says where that is.
 use Prim.Native.Nat.{ℕ, suc, _+_}
 use mathlib.Core.Bool.{true, false, cond}
 use mathlib.Core.List.{List, [], _∷_, _++_}
@@ -26,7 +26,10 @@ agreeAt text at word = agreeFrom at word (drop at text)
 unfoldable pub numberFrom : ℕ → ℕ → Option ℕ → List ℕ → Number
 numberFrom most next v [] = record { value = Option·getD v 0; next = next }
 numberFrom most next v (c ∷ bytes) =
-    elim (grow most v c) [ none ↦ record { value = Option·getD v 0; next = next } | some w ↦ numberFrom most (suc next) (some w) bytes ]
+    elim (grow most v c) [
+      | none ↦ record { value = Option·getD v 0; next = next }
+      | some w ↦ numberFrom most (suc next) (some w) bytes
+    ]
 
 -- where no number begins, `next` is the place itself
 abbrev pub numberAt : ℕ → List ℕ → ℕ → Number

@@ -37,7 +37,8 @@ struct Cell {
     whole: bool,
 }
 
-// A row's numbers, as many as its form has columns; where it is not whole, `next` is the first byte that may not stand there.
+// A row's numbers, as many as its form has columns; where it is not whole, `next` is the first byte that may not stand
+// there.
 struct Row {
     numbers: [u64; Row::MOST],
     next: usize,
@@ -91,7 +92,8 @@ fn with_digit(most: u64, v: u64, c: u8) -> Grown
     }
 }
 
-// Whether 10 v + d is at most the largest, asked so that nothing passes 64 bits. Most digits are told by the quotient, the same for each.
+// Whether 10 v + d is at most the largest, asked so that nothing passes 64 bits. Most digits are told by the quotient,
+// the same for each.
 fn has_room(most: u64, v: u64, d: u64) -> bool
     requires { ⌜ d < 10 ⌝ }
     ensures { λ r. ⌜ r ≡ leb (10 * v + d) most ⌝ }

@@ -32,7 +32,8 @@ few-tasks : (t : Table) → refusal t .number ≡ 0 → t .n ≤ mostTasks
 unfolding refusal
 few-tasks t e = by (eqb (sizesRefusal t) 0) refl e
   where
-    by : (b : Bool) → eqb (sizesRefusal t) 0 ≡ b → cond b (rowsRefusal t) (record { number = sizesRefusal t; row = 0 }) .number ≡ 0 → t .n ≤ mostTasks
+    by : (b : Bool) → eqb (sizesRefusal t) 0 ≡ b
+        → cond b (rowsRefusal t) (record { number = sizesRefusal t; row = 0 }) .number ≡ 0 → t .n ≤ mostTasks
     by true w e = good-sizes t (eqb-true (sizesRefusal t) 0 w) .few
     by false w e = absurd (eqb-false (sizesRefusal t) 0 w e)
 
@@ -40,9 +41,11 @@ most : (b : Bool) (x y : Refusal) → x .number ≤ 14 → y .number ≤ 14 → 
 most true x y h g = h
 most false x y h g = g
 
-given-most : (r : Rule ℕ) (rs : List (Rule ℕ)) → r .number ≤ 14 → firstGiven rs .number ≤ 14 → firstGiven (r ∷ rs) .number ≤ 14
+given-most : (r : Rule ℕ) (rs : List (Rule ℕ)) → r .number ≤ 14 → firstGiven rs .number ≤ 14
+    → firstGiven (r ∷ rs) .number ≤ 14
 unfolding firstGiven
-given-most r rs h g = most (eqb (lowest mostTasks (r .given)) 0) (firstGiven rs) (record { number = r .number; row = lowest mostTasks (r .given) }) g h
+given-most r rs h g = most (eqb (lowest mostTasks (r .given)) 0) (firstGiven rs)
+    (record { number = r .number; row = lowest mostTasks (r .given) }) g h
 
 none-given : firstGiven [] .number ≤ 14
 unfolding firstGiven
@@ -57,7 +60,8 @@ number-most m released finished =
     let twelve : 12 ≤ 14 = omega arith in
     let thirteen : 13 ≤ 14 = omega arith in
     most (goodState m) (firstGiven (tickRules m released finished)) (record { number = 14; row = 0 })
-    (given-most _ _ nine (given-most _ _ ten (given-most _ _ eleven (given-most _ _ twelve (given-most _ _ thirteen none-given)))))
+    (given-most _ _ nine
+    (given-most _ _ ten (given-most _ _ eleven (given-most _ _ twelve (given-most _ _ thirteen none-given)))))
     (omega arith)
 
 pub record Small (t : Ticked) : Type 0 where
@@ -73,7 +77,8 @@ accepted-good : (m : Machine) (released finished : ℕ) → accepted m released 
 unfolding tickRefusal
 accepted-good m released finished e = by (goodState m) (eqb-true _ 0 e)
   where
-    by : (b : Bool) → cond b (firstGiven (tickRules m released finished)) (record { number = 14; row = 0 }) .number ≡ 0 → b ≡ true
+    by : (b : Bool)
+        → cond b (firstGiven (tickRules m released finished)) (record { number = 14; row = 0 }) .number ≡ 0 → b ≡ true
     by true e = refl
     by false e = absurd (omega arith)
 
@@ -86,11 +91,13 @@ unfolding tick
 tick-small m k h = by (accepted m (k .released) (k .finished)) refl
   where
     by : (b : Bool) → accepted m (k .released) (k .finished) ≡ b
-        → Small (cond b (acceptedTick m (k .released) (k .finished)) (refusedTick m (tickRefusal m (k .released) (k .finished))))
+        → Small (cond b (acceptedTick m (k .released) (k .finished))
+        (refusedTick m (tickRefusal m (k .released) (k .finished))))
     by true e =
         let few : m .table .n ≤ mostTasks = good-few m (accepted-good m (k .released) (k .finished) e) in
         let number = number-most m (k .released) (k .finished) in
-        let same = ap (λ (t : Table). t .n) (step-table (readied m (k .released) (k .finished)) ∙ readied-table m (k .released) (k .finished)) in
+        let same = ap (λ (t : Table). t .n)
+        (step-table (readied m (k .released) (k .finished)) ∙ readied-table m (k .released) (k .finished)) in
         record {
           number = omega arith;
           finished = h;

@@ -22,16 +22,19 @@ use Rattle.texts.proofs.Given.{taken-found}
 use Rattle.runs.specs.Ticks.{runText, ran}
 use Rattle.runs.specs.Code.Runs.{rowsOf, CountedTicks}
 
-pub ticks-bad : (x : Answer (List (List ℕ))) (k : TicksRead) (t : Table) → k ≡ ticksRead x → (k .refused .number ≡ 0 → ⊥) → ran x t ≡ refusedText (k .refused)
+pub ticks-bad : (x : Answer (List (List ℕ))) (k : TicksRead) (t : Table) → k ≡ ticksRead x
+    → (k .refused .number ≡ 0 → ⊥) → ran x t ≡ refusedText (k .refused)
 ticks-bad (found rows) k t e h = absurd (h (ap (λ (q : TicksRead). q .refused .number) e))
 ticks-bad (refused offset) k t e h = ap (λ (q : TicksRead). refusedText (q .refused)) (sym e)
 
 -- a ticks text that is taken is good
 module _ (there : Bool) (text : List ℕ) where
-  pub ticks-good : (k : TicksRead) → k ≡ ticksRead (taken ticksForm there text) → k .refused .number ≡ 0 → (taken ticksForm there text ≡ read ticksForm text) × CountedTicks text (k .count)
+  pub ticks-good : (k : TicksRead) → k ≡ ticksRead (taken ticksForm there text) → k .refused .number ≡ 0
+      → (taken ticksForm there text ≡ read ticksForm text) × CountedTicks text (k .count)
   ticks-good k e h = go (taken ticksForm there text) refl
     where
-      go : (x : Answer (List (List ℕ))) → taken ticksForm there text ≡ x → (taken ticksForm there text ≡ read ticksForm text) × CountedTicks text (k .count)
+      go : (x : Answer (List (List ℕ))) → taken ticksForm there text ≡ x
+          → (taken ticksForm there text ≡ read ticksForm text) × CountedTicks text (k .count)
       go (found rows) f =
           let s = taken-found ticksForm there text rows f .0 in
           let all = sym (ap rowsOf s) in
@@ -42,7 +45,8 @@ module _ (there : Bool) (text : List ℕ) where
           no e = omega arith
 
 -- the table of good ticks is judged
-module _ (t : Table) (r : Refusal) (e : r ≡ refusal t) (x : Answer (List (List ℕ))) (rows : List (List ℕ)) (f : x ≡ found rows) where
+module _ (t : Table) (r : Refusal) (e : r ≡ refusal t) (x : Answer (List (List ℕ))) (rows : List (List ℕ))
+    (f : x ≡ found rows) where
   pub ran-refused : (r .number ≡ 0 → ⊥) → ran x t ≡ refusedText r
   ran-refused h = rw (f, sym e, ne-eqb (r .number) 0 h)
 

@@ -10,5 +10,6 @@ use Rattle.runs.specs.Ticks.{ticksText}
 
 module _ (p : Bool) (platform : List ℕ) (t : Bool) (tasks : List ℕ) (k : Bool) (ticks : List ℕ) where
   pub ticks-determined : (out : List ℕ) (r s : Written) (a b : List ℕ)
-      → Wrote (ticksText p platform t tasks k ticks) out r a → Wrote (ticksText p platform t tasks k ticks) out s b → (r ≡ s) × (a ≡ b)
+      → Wrote (ticksText p platform t tasks k ticks) out r a
+      → Wrote (ticksText p platform t tasks k ticks) out s b → (r ≡ s) × (a ≡ b)
   ticks-determined = wrote-determined (ticksText p platform t tasks k ticks)

@@ -25,9 +25,11 @@ header = bytes "tick,refused,finished,late,started" ++ crlf
 abbrev pub toCome : Run → List (List ℕ) → List ℕ
 toCome r rows = lines (runRows (r .taken) (r .machine) rows)
 
-pub run-split : (m : Machine) (rows : List (List ℕ)) (r : Run) → r ≡ runStart m → runText m rows ≡ header ++ toCome r rows
+pub run-split : (m : Machine) (rows : List (List ℕ)) (r : Run) → r ≡ runStart m
+    → runText m rows ≡ header ++ toCome r rows
 unfolding listing
-run-split m rows r e = rw e (sym (append-assoc (bytes "tick,refused,finished,late,started") crlf (toCome (runStart m) rows)))
+run-split m rows r e =
+    rw e (sym (append-assoc (bytes "tick,refused,finished,late,started") crlf (toCome (runStart m) rows)))
 
 pub record Going (text : List ℕ) (r : Run) (rows : List (List ℕ)) : Type 0 where
   pub rest : Rest text (r .at) rows
@@ -36,7 +38,8 @@ pub record Going (text : List ℕ) (r : Run) (rows : List (List ℕ)) : Type 0 w
 pub going-start : (text : List ℕ) (m : Machine) → GoodTicks text → Going text (runStart m) (ticksIn text)
 going-start text m e = record { rest = ticks-start text (ticksIn text) e; few = omega arith }
 
-pub going-end : (text : List ℕ) (r : Run) (rows : List (List ℕ)) → Going text r rows → length text ≤ r .at → toCome r rows ≡ []
+pub going-end : (text : List ℕ) (r : Run) (rows : List (List ℕ)) → Going text r rows
+    → length text ≤ r .at → toCome r rows ≡ []
 unfolding lines runRows
 going-end text r rows g h = rw (ticks-end text (r .at) rows (g .rest) h)
 
@@ -55,17 +58,23 @@ pub record Gone (text : List ℕ) (r : Run) (rows : List (List ℕ)) (x : Run) :
   pub inside : x .at ≤ length text
   pub comes : toCome r rows ≡ line (x .line) ++ toCome x more
 
-pub going-on : (text : List ℕ) (r : Run) (rows : List (List ℕ)) (x : Run) → Going text r rows → r .at < length text → x ≡ runOn text r → Gone text r rows x
+pub going-on : (text : List ℕ) (r : Run) (rows : List (List ℕ)) (x : Run) → Going text r rows → r .at < length text
+    → x ≡ runOn text r → Gone text r rows x
 unfolding lines runRows runOn
 going-on text r rows x g l e =
     let n = ticks-next text (r .at) rows (g .rest) l in
     let far = n .far in
     let few = g .few in
     let by : Tick → List ℕ = λ k.
-    line (runRow (r .taken) (tickWith (r .machine) k)) ++ lines (runRows (counted (r .taken) (tickWith (r .machine) k .answer .refused)) (tickWith (r .machine) k .machine) (n .more)) in
+    line (runRow (r .taken) (tickWith (r .machine) k)) ++ lines (runRows (counted (r .taken)
+    (tickWith (r .machine) k .answer .refused)) (tickWith (r .machine) k .machine) (n .more)) in
     rw e (record {
       more = n .more;
-      going = record { rest = n .rest; few = omega (arith, counted-most (r .taken) (tickWith (r .machine) (tickAt text (r .at) .tick) .answer .refused)) };
+      going = record {
+        rest = n .rest;
+        few =
+            omega (arith, counted-most (r .taken) (tickWith (r .machine) (tickAt text (r .at) .tick) .answer .refused));
+      };
       far = n .far;
       inside = n .inside;
       comes = ap (toCome r) (n .rows-are) ∙ ap by (sym (n .tick));

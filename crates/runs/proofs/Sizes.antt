@@ -24,7 +24,8 @@ use Rattle.runs.specs.Ticks.{runText, ran, ticksText, ticksMost, TicksFi
 use Rattle.runs.proofs.Widths.{rows-most}
 
 module _ (there : Bool) (bytes : List ℕ) where
-  run-fits : (t : Table) (rows : List (List ℕ)) → taken ticksForm there bytes ≡ found rows → length (runText (fresh t) rows) ≤ ticksMost
+  run-fits : (t : Table) (rows : List (List ℕ)) → taken ticksForm there bytes ≡ found rows
+      → length (runText (fresh t) rows) ≤ ticksMost
   run-fits t rows e =
       let k = taken-found ticksForm there bytes rows e in
       let w = written ticksForm bytes rows (k .0) in
@@ -32,7 +33,8 @@ module _ (there : Bool) (bytes : List ℕ) where
       let least = text-least ticksForm rows (w .0 .each) in
       omega (arith, k .1, rows-most rows (fresh t) (omega (arith, k .1)) (w .0 .each))
 
-  ran-fits : (t : Table) → length (t .rows) ≡ mostTasks → (x : Answer (List (List ℕ))) → taken ticksForm there bytes ≡ x → length (ran x t) ≤ ticksMost
+  ran-fits : (t : Table) → length (t .rows) ≡ mostTasks → (x : Answer (List (List ℕ))) → taken ticksForm there bytes ≡ x
+      → length (ran x t) ≤ ticksMost
   ran-fits t len (refused k) e = omega (arith, bad-most ticksForm there bytes k e)
   ran-fits t len (found rows) e = go (eqb (refusal t .number) 0)
     where
@@ -44,8 +46,9 @@ pub ticks-fit : TicksFit
 unfolding ticksText
 ticks-fit pThere p tThere t kThere k = go (taken platformForm pThere p) refl (taken tasksForm tThere t) refl
   where
-    go : (x : Answer (List (List ℕ))) → taken platformForm pThere p ≡ x → (y : Answer (List (List ℕ))) → taken tasksForm tThere t ≡ y
-        → length (given refusedText (ran (taken ticksForm kThere k)) x y) ≤ ticksMost
+    go : (x : Answer (List (List ℕ))) → taken platformForm pThere p ≡ x → (y : Answer (List (List ℕ)))
+        → taken tasksForm tThere t ≡ y → length (given refusedText (ran (taken ticksForm kThere k)) x y) ≤ ticksMost
     go (refused n) e y f = omega (arith, bad-most platformForm pThere p n e)
     go (found rows) e (refused n) f = omega (arith, bad-most tasksForm tThere t n f)
-    go (found rows) e (found more) f = ran-fits kThere k _ (length-padded noTask mostTasks _) (taken ticksForm kThere k) refl
+    go (found rows) e (found more) f =
+        ran-fits kThere k _ (length-padded noTask mostTasks _) (taken ticksForm kThere k) refl

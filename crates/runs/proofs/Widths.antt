@@ -24,8 +24,8 @@ use Rattle.runs.proofs.Answered.{tick-small}
 second-most : {row : List ℕ} → Within (columns ticksForm) row → getD row 1 0 ≤ largest
 second-most (also a (also b none)) = b
 
-lines-most : (rows : List (List ℕ)) (before : ℕ) (m : Machine) → before + length rows < big → EachRow (columns ticksForm) rows
-    → length (lines (runRows before m rows)) ≤ 106 * length rows
+lines-most : (rows : List (List ℕ)) (before : ℕ) (m : Machine) → before + length rows < big
+    → EachRow (columns ticksForm) rows → length (lines (runRows before m rows)) ≤ 106 * length rows
 unfolding lines runRows
 lines-most [] before m h none = omega arith
 lines-most (row ∷ rows) before m h (also within each) =
@@ -36,13 +36,15 @@ lines-most (row ∷ rows) before m h (also within each) =
     let rest = lines-most rows (counted before (t .answer .refused)) (t .machine) (omega arith) each in
     simp length-append (omega arith)
 
-pub rows-most : (rows : List (List ℕ)) (m : Machine) → length rows < big → EachRow (columns ticksForm) rows → length (runText m rows) ≤ listingMost (length rows)
+pub rows-most : (rows : List (List ℕ)) (m : Machine) → length rows < big → EachRow (columns ticksForm) rows
+    → length (runText m rows) ≤ listingMost (length rows)
 rows-most rows m h each =
     let most = lines-most rows 0 m (omega arith) each in
     let size = ap length (run-split m rows (runStart m) refl) in
     omega (arith, length-append header (toCome (runStart m) rows))
 
-pub run-most : (text : List ℕ) (m : Machine) → GoodTicks text → length (ticksIn text) < big → length (runText m (ticksIn text)) ≤ listingMost (length (ticksIn text))
+pub run-most : (text : List ℕ) (m : Machine) → GoodTicks text → length (ticksIn text) < big
+    → length (runText m (ticksIn text)) ≤ listingMost (length (ticksIn text))
 run-most text m e h = rows-most (ticksIn text) m h (written ticksForm text (ticksIn text) e .0 .each)
 
 -- the tests of the code
@@ -57,12 +59,14 @@ fits-by-count count room h = same-truth _ _ to from
     from : leb (listingMost count) room ≡ true → leb count ((room - 36) / 106) ≡ true
     from e =
         let l : listingMost count ≤ room = leb-true _ _ e in
-        le-leb count ((room - 36) / 106) (le-div-iff-mul-le {k = 106} {x = count} {y = room - 36} (omega arith) .1 (omega arith))
+        le-leb count ((room - 36) / 106)
+        (le-div-iff-mul-le {k = 106} {x = count} {y = room - 36} (omega arith) .1 (omega arith))
 
 pub fits-by-room : (text : List ℕ) (room : ℕ) (x : Room) → x ≡ roomFor text room → x .enough ≡ leb (length text) room
 unfolding roomFor
 fits-by-room text room x e = ap (λ (y : Room). y .enough) e ∙ by (leb (length text) room)
   where
-    by : (b : Bool) → cond {A = Room} b (record { enough = true; left = room - length text }) (record { enough = false; left = 0 }) .enough ≡ b
+    by : (b : Bool) → cond {A = Room} b (record { enough = true; left = room - length text })
+        (record { enough = false; left = 0 }) .enough ≡ b
     by true = refl
     by false = refl

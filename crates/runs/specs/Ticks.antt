@@ -1,5 +1,6 @@
--- What the program "ticks" writes, from its three texts, each there or missing: a row for each tick, on the machine that the ticks before it
--- left, or the refusal. Platform, tasks and ticks text are tried in that order before any number of the table is judged.
+-- What the program "ticks" writes, from its three texts, each there or missing: a row for each tick, on the machine
+-- that the ticks before it left, or the refusal. Platform, tasks and ticks text are tried in that order before any
+-- number of the table is judged.
 use Prim.Native.Nat.{ℕ, suc, _+_, _-_, _*_, _/_, _≤_}
 use mathlib.Core.Bool.{Bool, cond}
 use mathlib.Core.List.{List, [], _∷_}
@@ -52,7 +53,8 @@ ticksText platformThere platform tasksThere tasks ticksThere ticks =
     (taken platformForm platformThere platform)
     (taken tasksForm tasksThere tasks)
 
--- A listing of so many ticks is no longer: a header of 36 bytes, and five numbers of at most 20 digits, four commas and CR LF for each.
+-- A listing of so many ticks is no longer: a header of 36 bytes, and five numbers of at most 20 digits, four commas and
+-- CR LF for each.
 abbrev pub listingMost : ℕ → ℕ
 listingMost ticks = 36 + 106 * ticks
 
@@ -62,5 +64,6 @@ ticksMost = listingMost ((longest - firstTick) / 5)
 
 -- Refusal 16 cannot come up in the program: whatever its texts, there or missing, however long.
 abbrev pub TicksFit : Type 0
-TicksFit = (platformThere : Bool) (platform : List ℕ) (tasksThere : Bool) (tasks : List ℕ) (ticksThere : Bool) (ticks : List ℕ)
+TicksFit =
+    (platformThere : Bool) (platform : List ℕ) (tasksThere : Bool) (tasks : List ℕ) (ticksThere : Bool) (ticks : List ℕ)
     → length (ticksText platformThere platform tasksThere tasks ticksThere ticks) ≤ ticksMost

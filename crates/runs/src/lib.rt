@@ -119,7 +119,8 @@ const HEADER: usize = 36;
 
 const ROW: usize = 106;
 
-// The most that the program "ticks" writes: it lends so much, and refusal 16 cannot come up. A tick takes at least 5 bytes of its text.
+// The most that the program "ticks" writes: it lends so much, and refusal 16 cannot come up. A tick takes at least 5
+// bytes of its text.
 pub const TICKS_MOST: usize = HEADER + ROW * ((texts::LONGEST - Tick::FIRST) / 5);
 
 // Whether the longest listing of so many ticks has room.
@@ -185,7 +186,8 @@ pub fn ticks(
     ticks: &[u8],
     out: &mut [u8],
 ) -> Written
-    ensures { λ r. ⌜ Wrote (ticksText «platform_there» (now (platform .entry)) «tasks_there» (now (tasks .entry)) «ticks_there» (now (ticks .entry))) (now (out .entry)) r (now (out .exit)) ⌝ }
+    ensures { λ r. ⌜ Wrote (ticksText «platform_there» (now (platform .entry)) «tasks_there»
+        (now (tasks .entry)) «ticks_there» (now (ticks .entry))) (now (out .entry)) r (now (out .exit)) ⌝ }
 {
     let p = texts::take_platform(platform_there, platform);
     if p.refused.number != 0 {

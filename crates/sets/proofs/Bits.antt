@@ -9,7 +9,8 @@ use native.Mathlib.Decide.{ℕ-discrete, decLt}
 use borrow.Author.Tests.{eq-eqb, ne-eqb, eqb-true}
 use lib.Bits.{bitAnd, bitOr, and-step, or-step, and-shr, or-shr, and-le-l}
 use lib.Dec.{lit<}
-use lib.Pow.{pow-add, pow-pos, pow-mono, pow-lt, shl-shr, shr-shr, high, mod-pow-add, field, mod-mod-pow, ones-lt, ones-split}
+use lib.Pow.{pow-add, pow-pos, pow-mono, pow-lt, shl-shr, shr-shr, high, mod-pow-add, field, mod-mod-pow, ones-lt}
+use lib.Pow.{ones-split}
 use Rattle.sets.specs.Sets.{bit, has, below, without}
 
 pub bit-lt : (x p : ℕ) → bit x p < 2
@@ -72,7 +73,8 @@ bit-and x y p = rw and-shr (low (x / 2 ^ p) (y / 2 ^ p))
     low x y = omega (arith, and-step x y)
 
 pub bit-without : (x y p : ℕ) → bit (without x y) p ≡ bit x p - bit y p
-bit-without x y zero = rw (bit-first (without x y), bit-first x, bit-first y) (omega (arith, and-step x y, and-le-l (x / 2) (y / 2)))
+bit-without x y zero =
+    rw (bit-first (without x y), bit-first x, bit-first y) (omega (arith, and-step x y, and-le-l (x / 2) (y / 2)))
 bit-without x y (suc p) =
     let half : without x y / 2 ≡ without (x / 2) (y / 2) = omega (arith, and-step x y, and-le-l (x / 2) (y / 2)) in
     rw (bit-next (without x y) p, bit-next x p, bit-next y p, half) (bit-without (x / 2) (y / 2) p)
@@ -104,7 +106,8 @@ mod-more x w = ap (λ (z : ℕ). x % 2 ^ z) (omega arith) ∙ mod-pow-add x 1 w
 pub bit-mod : (w x p : ℕ) → p < w → bit (x % 2 ^ w) p ≡ bit x p
 bit-mod w x p h =
     let e : w ≡ (w - suc p) + 1 + p = omega arith in
-    let d : x % 2 ^ w / 2 ^ p ≡ x / 2 ^ p % 2 ^ ((w - suc p) + 1) = ap (λ (z : ℕ). x % 2 ^ z / 2 ^ p) e ∙ field x ((w - suc p) + 1) p in
+    let d : x % 2 ^ w / 2 ^ p ≡ x / 2 ^ p % 2 ^ ((w - suc p) + 1) =
+    ap (λ (z : ℕ). x % 2 ^ z / 2 ^ p) e ∙ field x ((w - suc p) + 1) p in
     rw d (mod-mod-pow (x / 2 ^ p) (w - suc p) 1)
 
 -- the set of all below n

@@ -36,8 +36,10 @@ choice-count : (idle a w : ℕ) → w ≤ mostPartitions → size w (choice idle
 choice-count idle a zero h = rw (size-none (choice idle a), size-none idle) (omega arith)
 choice-count idle a (suc w) h = by (choice-count idle a w (omega arith)) (decLt (size w idle) a)
   where
-    by : size w (choice idle a) ≡ min a (size w idle) → Dec (size w idle < a) → size (suc w) (choice idle a) ≡ min a (size (suc w) idle)
-    by r (yes l) = rw (size-more w (choice idle a), size-more w idle, choice-in idle a w h l) (omega (arith, bit-lt idle w))
+    by : size w (choice idle a) ≡ min a (size w idle) → Dec (size w idle < a)
+        → size (suc w) (choice idle a) ≡ min a (size (suc w) idle)
+    by r (yes l) =
+        rw (size-more w (choice idle a), size-more w idle, choice-in idle a w h l) (omega (arith, bit-lt idle w))
     by r (no l) = rw (size-more w (choice idle a), size-more w idle, choice-out idle a w (omega arith)) (omega arith)
 
 pub choice-size : (idle a : ℕ) → a ≤ size mostPartitions idle → size mostPartitions (choice idle a) ≡ a

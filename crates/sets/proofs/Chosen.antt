@@ -26,7 +26,13 @@ set-snoc (q ∷ l) p =
     let s = setOf l in
     rw (set-snoc l p)
     (same (bitOr (2 ^ q) (bitOr s (2 ^ p))) (bitOr (bitOr (2 ^ q) s) (2 ^ p))
-    (λ i. omega (arith, bit-or (2 ^ q) (bitOr s (2 ^ p)) i, bit-or s (2 ^ p) i, bit-or (bitOr (2 ^ q) s) (2 ^ p) i, bit-or (2 ^ q) s i)))
+    (λ i. omega (
+      arith,
+      bit-or (2 ^ q) (bitOr s (2 ^ p)) i,
+      bit-or s (2 ^ p) i,
+      bit-or (bitOr (2 ^ q) s) (2 ^ p) i,
+      bit-or (2 ^ q) s i,
+    )))
 
 members-in : (w x : ℕ) → bit x w ≡ 1 → members (suc w) x ≡ members w x ++ (w ∷ [])
 unfolding members
@@ -41,7 +47,8 @@ unfolding members size
 members-size zero x = refl
 members-size (suc w) x = by (members-size w x) (bit-cases x w)
   where
-    by : length (members w x) ≡ size w x → (bit x w ≡ 0) ⊎ (bit x w ≡ 1) → length (members (suc w) x) ≡ size w x + bit x w
+    by : length (members w x) ≡ size w x → (bit x w ≡ 0) ⊎ (bit x w ≡ 1)
+        → length (members (suc w) x) ≡ size w x + bit x w
     by h (inl e) = rw (members-out w x e) (omega arith)
     by h (inr e) = rw (members-in w x e) (simp length-append (omega arith))
 
@@ -76,7 +83,8 @@ choice-is x a = chosen mostPartitions x a
 
 module _ (x a p : ℕ) where
   pub choice-in : p < mostPartitions → size p x < a → bit (choice x a) p ≡ bit x p
-  choice-in h l = rw (choice-is x a) (where-bit (among x a) mostPartitions p h ∙ rw (lt-ltb (size p x) a l, and-true) (has-bit x p))
+  choice-in h l =
+      rw (choice-is x a) (where-bit (among x a) mostPartitions p h ∙ rw (lt-ltb (size p x) a l, and-true) (has-bit x p))
 
   pub choice-far : mostPartitions ≤ p → bit (choice x a) p ≡ 0
   choice-far h = rw (choice-is x a) (where-above (among x a) mostPartitions p h)

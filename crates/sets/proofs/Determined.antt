@@ -18,7 +18,8 @@ task-bit-determined k = determined (taskBit k)
 pub size-determined : (x : ℕ) (r s : Partitions) → r ≡ partitionsIn x → s ≡ partitionsIn x → r ≡ s
 size-determined x = determined (partitionsIn x)
 
-pub below-determined : (p : Partitions) (r s : ℕ) → r ≡ below (min (p .0) mostPartitions) → s ≡ below (min (p .0) mostPartitions) → r ≡ s
+pub below-determined : (p : Partitions) (r s : ℕ) → r ≡ below (min (p .0) mostPartitions)
+    → s ≡ below (min (p .0) mostPartitions) → r ≡ s
 below-determined p = determined (below (min (p .0) mostPartitions))
 
 pub without-determined : (x y r s : ℕ) → r ≡ without x y → s ≡ without x y → r ≡ s

@@ -19,7 +19,8 @@ apart-within f g n h a i j l m =
 -- holder k, who had nothing, takes y
 module _ (f g : ℕ → ℕ) (n k : ℕ) (in-n : k < n) (others : (i : ℕ) → i < n → (i ≡ k → ⊥) → g i ≡ f i) where
   pub union-take : f k ≡ 0 → unionOf n g ≡ bitOr (unionOf n f) (g k)
-  union-take e = same (unionOf n g) (bitOr (unionOf n f) (g k)) (λ p. by p (bit-cases (unionOf n g) p) (bit-cases (unionOf n f) p))
+  union-take e =
+      same (unionOf n g) (bitOr (unionOf n f) (g k)) (λ p. by p (bit-cases (unionOf n g) p) (bit-cases (unionOf n f) p))
     where
       of-f : (p i : ℕ) → i < n → bit (f i) p ≡ 1 → Dec (i ≡ k) → 1 ≤ bit (unionOf n g) p
       of-f p i l b (yes w) = absurd (omega (arith, rw (w, e) at b, bit-zero p))
@@ -29,7 +30,8 @@ module _ (f g : ℕ → ℕ) (n k : ℕ) (in-n : k < n) (others : (i : ℕ) → 
       of-g p i l b (yes w) = omega (arith, rw w at b)
       of-g p i l b (no w) = omega (arith, rw (others i l w) at b, union-within f n i l p)
 
-      by : (p : ℕ) → (bit (unionOf n g) p ≡ 0) ⊎ (bit (unionOf n g) p ≡ 1) → (bit (unionOf n f) p ≡ 0) ⊎ (bit (unionOf n f) p ≡ 1)
+      by : (p : ℕ) → (bit (unionOf n g) p ≡ 0) ⊎ (bit (unionOf n g) p ≡ 1)
+          → (bit (unionOf n f) p ≡ 0) ⊎ (bit (unionOf n f) p ≡ 1)
           → bit (unionOf n g) p ≡ bit (bitOr (unionOf n f) (g k)) p
       by p (inl a) (inl b) = omega (arith, bit-or (unionOf n f) (g k) p, union-within g n k in-n p)
       by p (inl a) (inr b) =
@@ -37,7 +39,13 @@ module _ (f g : ℕ → ℕ) (n k : ℕ) (in-n : k < n) (others : (i : ℕ) → 
           omega (arith, of-f p (m .0) (m .1) (m .2) (ℕ-discrete (m .0) k))
       by p (inr a) b =
           let m = union-some g n p a in
-          omega (arith, of-g p (m .0) (m .1) (m .2) (ℕ-discrete (m .0) k), bit-or (unionOf n f) (g k) p, bit-lt (unionOf n f) p, bit-lt (g k) p)
+          omega (
+            arith,
+            of-g p (m .0) (m .1) (m .2) (ℕ-discrete (m .0) k),
+            bit-or (unionOf n f) (g k) p,
+            bit-lt (unionOf n f) p,
+            bit-lt (g k) p,
+          )
 
   pub apart-take : Apart n f → bitAnd (unionOf n f) (g k) ≡ 0 → Apart n g
   apart-take a e i j l m = by (ℕ-discrete i k) (ℕ-discrete j k)

@@ -13,7 +13,8 @@ use Rattle.table.specs.Limits.{mostPartitions}
 use Rattle.sets.specs.Sets.{bit, size, without, Within}
 use Rattle.sets.specs.Choice.{choice}
 use Rattle.sets.specs.Code.Less.{less}
-use Rattle.sets.proofs.Bits.{bit-cases, bit-lt, bit-zero, bit-without, bit-pow-same, bit-pow-other, bit-mod, mod-more}
+use Rattle.sets.proofs.Bits.{bit-cases, bit-lt, bit-zero, bit-without, bit-pow-same, bit-pow-other, bit-mod}
+use Rattle.sets.proofs.Bits.{mod-more}
 use Rattle.sets.proofs.Same.{ext, and-within}
 use Rattle.sets.proofs.Sizes.{size-zero, size-same, size-pow, size-without}
 use Rattle.sets.proofs.Chosen.{choice-in, choice-out}
@@ -57,7 +58,8 @@ module _ (x p : ℕ) (low : Lowest x p) where
   pub drop-lowest : bitAnd x (x - 1) ≡ without x (2 ^ p)
   drop-lowest =
       let h = x / 2 ^ suc p in
-      let is : x ≡ h * 2 ^ suc p + 2 ^ p = omega (arith, split x (suc p), rw (mod-more x p, low .there, low .first) at (split x (suc p))) in
+      let is : x ≡ h * 2 ^ suc p + 2 ^ p =
+      omega (arith, split x (suc p), rw (mod-more x p, low .there, low .first) at (split x (suc p))) in
       let less : x - 1 ≡ h * 2 ^ suc p + (2 ^ p - 1) = omega (arith, pow-pos p) in
       let apart : bitAnd (2 ^ p) (2 ^ p - 1) ≡ 0 = rw (one-mul (2 ^ p)) at (and-shifted 1 p (2 ^ p - 1) (ones-lt p)) in
       let up : 2 ^ p < 2 ^ suc p = pow-lt (omega arith) in
@@ -97,8 +99,10 @@ leaves-low x a p h low =
     at : (q : ℕ) → bit y q ≡ bit x q - bit (2 ^ p) q
     at q = bit-without x (2 ^ p) q
 
-    by : (q : ℕ) → q < mostPartitions → Dec (p < q) → Dec (p ≡ q) → Dec (size q y < a) → bit (leaves x (suc a)) q ≡ bit (leaves y a) q
-    by q l (yes d) e (yes s) = leaves-none x (suc a) q l (omega (arith, low-size x p low q d)) ∙ sym (leaves-none y a q l s)
+    by : (q : ℕ) → q < mostPartitions → Dec (p < q) → Dec (p ≡ q) → Dec (size q y < a)
+        → bit (leaves x (suc a)) q ≡ bit (leaves y a) q
+    by q l (yes d) e (yes s) = leaves-none x (suc a) q l (omega (arith, low-size x p low q d))
+        ∙ sym (leaves-none y a q l s)
     by q l (yes d) e (no s) =
         leaves-all x (suc a) q l (omega (arith, low-size x p low q d))
         ∙ omega (arith, at q, bit-pow-other p q (omega arith))
@@ -108,7 +112,13 @@ leaves-low x a p h low =
         leaves-none x (suc a) q l (rw (← e) (omega (arith, low-empty x p low)))
         ∙ omega (arith, at q, bit-without y (choice y a) q, bit-lt x q)
     by q l (no d) (no e) s =
-        omega (arith, at q, bit-without y (choice y a) q, bit-without x (choice x (suc a)) q, low-none x p low q (omega arith))
+        omega (
+          arith,
+          at q,
+          bit-without y (choice y a) q,
+          bit-without x (choice x (suc a)) q,
+          low-none x p low q (omega arith),
+        )
 
 -- a turn of the loop, its start and its two ends
 pub leaves-less : (x a : ℕ) → x < 2 ^ mostPartitions → 0 < x → 0 < a → leaves x a ≡ leaves (bitAnd x (x - 1)) (a - 1)
@@ -138,11 +148,13 @@ leaves-four x a h l =
     leaves-step x a h (omega arith)
     ∙ (leaves-step (less x) (a - 1) (lt-of-le-of-lt one h) (omega arith)
     ∙ (leaves-step (less (less x)) (a - 1 - 1) (lt-of-le-of-lt two (lt-of-le-of-lt one h)) (omega arith)
-    ∙ (leaves-step (less (less (less x))) (a - 1 - 1 - 1) (lt-of-le-of-lt three (lt-of-le-of-lt two (lt-of-le-of-lt one h))) (omega arith)
+    ∙ (leaves-step (less (less (less x))) (a - 1 - 1 - 1)
+    (lt-of-le-of-lt three (lt-of-le-of-lt two (lt-of-le-of-lt one h))) (omega arith)
     ∙ ap (leaves (less (less (less (less x))))) end)))
 
 pub less-four : (x : ℕ) → less (less (less (less x))) ≤ x
-less-four x = le-trans (less-le (less (less (less x)))) (le-trans (less-le (less (less x))) (le-trans (less-le (less x)) (less-le x)))
+less-four x = le-trans (less-le (less (less (less x))))
+    (le-trans (less-le (less (less x))) (le-trans (less-le (less x)) (less-le x)))
 
 pub leaves-zero : (x : ℕ) → leaves x 0 ≡ x
 leaves-zero x = rw (choice-none x, and-zero-r x) (omega arith)

@@ -8,7 +8,8 @@ use lib.Bits.{bitAnd, bitOr}
 use lib.Dec.{lit<}
 use lib.Pow.{pow-pos, pow-mono}
 use Rattle.sets.specs.Sets.{bit, below, without, Within}
-use Rattle.sets.proofs.Bits.{bit-lt, bit-above, bit-zero, bit-or, bit-and, bit-without, bit-below, bit-mod, mod-more}
+use Rattle.sets.proofs.Bits.{bit-lt, bit-above, bit-zero, bit-or, bit-and, bit-without, bit-below, bit-mod}
+use Rattle.sets.proofs.Bits.{mod-more}
 
 -- two sets with the same members below w are the same below w
 same-mod : (w x y : ℕ) → ((p : ℕ) → p < w → bit x p ≡ bit y p) → x % 2 ^ w ≡ y % 2 ^ w
@@ -71,7 +72,14 @@ without-or x y e =
 pub without-both : (x y z : ℕ) → without x (bitOr y z) ≡ without (without x y) z
 without-both x y z =
     same (without x (bitOr y z)) (without (without x y) z)
-    (λ p. omega (arith, bit-without x (bitOr y z) p, bit-or y z p, bit-without (without x y) z p, bit-without x y p, bit-lt x p))
+    (λ p. omega (
+      arith,
+      bit-without x (bitOr y z) p,
+      bit-or y z p,
+      bit-without (without x y) z p,
+      bit-without x y p,
+      bit-lt x p,
+    ))
 
 -- a number of p places is within the set of all below p
 pub within-below : (p x : ℕ) → x < 2 ^ p → Within x (below p)

@@ -10,7 +10,8 @@ use lib.Bits.{bitAnd, bitOr}
 use lib.Count.{ones, onesIn, ones-step}
 use lib.Pow.{shr-shr, ones-lt}
 use Rattle.sets.specs.Sets.{bit, size, below, without, Within}
-use Rattle.sets.proofs.Bits.{bit-lt, bit-cases, bit-above, bit-zero, bit-or, bit-and, bit-without, bit-pow-same, bit-pow-other, bit-below}
+use Rattle.sets.proofs.Bits.{bit-lt, bit-cases, bit-above, bit-zero, bit-or, bit-and, bit-without, bit-pow-same}
+use Rattle.sets.proofs.Bits.{bit-pow-other, bit-below}
 use Rattle.sets.proofs.Same.{within-below}
 
 pub size-none : (x : ℕ) → size 0 x ≡ 0
@@ -78,7 +79,8 @@ size-pow (suc w) p h = by (λ l. size-pow w p l) (eq-or-lt-of-le (le-of-suc-le-s
   where
     by : (p < w → size w (2 ^ p) ≡ 1) → (p ≡ w) ⊎ (p < w) → size w (2 ^ p) + bit (2 ^ p) w ≡ 1
     by r (inl e) =
-        let z : size w (2 ^ p) ≡ size w 0 = size-same w (2 ^ p) 0 (λ q l. omega (arith, bit-pow-other p q (omega arith), bit-zero q)) in
+        let z : size w (2 ^ p) ≡ size w 0 =
+        size-same w (2 ^ p) 0 (λ q l. omega (arith, bit-pow-other p q (omega arith), bit-zero q)) in
         let b : bit (2 ^ p) w ≡ 1 = rw e (bit-pow-same w) in
         omega (arith, size-zero w)
     by r (inr l) = omega (arith, r l, bit-pow-other p w (omega arith))

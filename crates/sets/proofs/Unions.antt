@@ -40,8 +40,8 @@ module _ (held : ℕ → ℕ) where
   union-some zero p e = absurd (omega (arith, rw union-none at e, bit-zero p))
   union-some (suc n) p e = by (λ l. union-some n p l) (bit-cases (held n) p)
     where
-      by : (bit (unionOf n held) p ≡ 1 → (i : ℕ) × (i < n) × (bit (held i) p ≡ 1)) → (bit (held n) p ≡ 0) ⊎ (bit (held n) p ≡ 1)
-          → (i : ℕ) × (i < suc n) × (bit (held i) p ≡ 1)
+      by : (bit (unionOf n held) p ≡ 1 → (i : ℕ) × (i < n) × (bit (held i) p ≡ 1))
+          → (bit (held n) p ≡ 0) ⊎ (bit (held n) p ≡ 1) → (i : ℕ) × (i < suc n) × (bit (held i) p ≡ 1)
       by r (inl b) =
           let m = r (omega (arith, rw union-more at e, bit-or (unionOf n held) (held n) p)) in
           (m .0, omega (arith, m .1), m .2)
@@ -49,7 +49,8 @@ module _ (held : ℕ → ℕ) where
 
   pub union-lt : (w n : ℕ) → ((i : ℕ) → i < n → held i < 2 ^ w) → unionOf n held < 2 ^ w
   union-lt w zero h = rw union-none (pow-pos w)
-  union-lt w (suc n) h = rw union-more (or-lt w (unionOf n held) (held n) (union-lt w n (λ i l. h i (omega arith))) (h n (omega arith)))
+  union-lt w (suc n) h =
+      rw union-more (or-lt w (unionOf n held) (held n) (union-lt w n (λ i l. h i (omega arith))) (h n (omega arith)))
 
   -- a set is disjoint from the union if it is from each holder's
   pub union-disjoint : (n y : ℕ) → ((i : ℕ) → i < n → bitAnd (held i) y ≡ 0) → bitAnd (unionOf n held) y ≡ 0
@@ -62,7 +63,8 @@ module _ (held : ℕ → ℕ) where
           omega (arith, m .2, disjoint-bit (held (m .0)) y p (h (m .0) (m .1)))
 
   pub disjoint-union : (n y i : ℕ) → bitAnd (unionOf n held) y ≡ 0 → i < n → bitAnd (held i) y ≡ 0
-  disjoint-union n y i e h = disjoint-of (held i) y (λ p. omega (arith, union-within n i h p, disjoint-bit (unionOf n held) y p e))
+  disjoint-union n y i e h =
+      disjoint-of (held i) y (λ p. omega (arith, union-within n i h p, disjoint-bit (unionOf n held) y p e))
 
   -- no number has two holders: one holder more, with the union of those before
   pub apart-none : Apart 0 held
@@ -101,18 +103,25 @@ module _ (held : ℕ → ℕ) where
   pub apart-all : (n : ℕ) → Apart n held → allApart n held ≡ true
   apart-all zero a = all-apart-none
   apart-all (suc n) a =
-      rw (all-apart-more n, apart-all n (apart-less n (suc n) (omega arith) a)) (eq-eqb (bitAnd (unionOf n held) (held n)) 0 (apart-last n a))
+      rw (all-apart-more n, apart-all n (apart-less n (suc n) (omega arith) a))
+      (eq-eqb (bitAnd (unionOf n held) (held n)) 0 (apart-last n a))
 
   -- the count of the union is that of the holders
   pub union-size : (w n : ℕ) → Apart n held → size w (unionOf n held) ≡ sum (λ i. size w (held i)) n
   union-size w zero a = rw union-none (size-zero w ∙ sym (sum-zero (λ i. size w (held i))))
   union-size w (suc n) a =
-      rw (union-more, sum-suc) (omega (arith, size-union w (unionOf n held) (held n) (apart-last n a), union-size w n (apart-less n (suc n) (omega arith) a)))
+      rw (union-more, sum-suc) (omega (
+        arith,
+        size-union w (unionOf n held) (held n) (apart-last n a),
+        union-size w n (apart-less n (suc n) (omega arith) a),
+      ))
 
   pub union-size-le : (w n : ℕ) → size w (unionOf n held) ≤ sum (λ i. size w (held i)) n
   union-size-le w zero = rw union-none (omega (arith, size-zero w))
-  union-size-le w (suc n) = rw (union-more, sum-suc) (omega (arith, size-or-le w (unionOf n held) (held n), union-size-le w n))
+  union-size-le w (suc n) =
+      rw (union-more, sum-suc) (omega (arith, size-or-le w (unionOf n held) (held n), union-size-le w n))
 
 pub union-same : (f g : ℕ → ℕ) (n : ℕ) → ((i : ℕ) → i < n → f i ≡ g i) → unionOf n f ≡ unionOf n g
 union-same f g zero h = union-none f ∙ sym (union-none g)
-union-same f g (suc n) h = rw (union-more f n, union-more g n, union-same f g n (λ i l. h i (omega arith)), h n (omega arith))
+union-same f g (suc n) h =
+    rw (union-more f n, union-more g n, union-same f g n (λ i l. h i (omega arith)), h n (omega arith))

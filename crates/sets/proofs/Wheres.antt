@@ -13,7 +13,8 @@ use lib.Pow.{shl-exact}
 use Rattle.table.specs.Limits.{mostTasks}
 use Rattle.sets.specs.Sets.{bit, has, setWhere}
 use Rattle.sets.specs.TaskSets.{hasTask, taskBit, tasksWhere}
-use Rattle.sets.proofs.Bits.{bit-lt, bit-cases, bit-one, bit-none, bit-above, bit-or, bit-pow-same, bit-pow-other}
+use Rattle.sets.proofs.Bits.{bit-lt, bit-cases, bit-one, bit-none, bit-above, bit-or, bit-pow-same}
+use Rattle.sets.proofs.Bits.{bit-pow-other}
 
 -- `1 << p`
 pub shifted : (w p : ℕ) → p < w → 1 * 2 ^ p % 2 ^ w ≡ 2 ^ p
@@ -78,7 +79,8 @@ module _ (f : ℕ → Bool) where
 
 pub where-same : (f g : ℕ → Bool) (n : ℕ) → ((i : ℕ) → i < n → f i ≡ g i) → setWhere f n ≡ setWhere g n
 where-same f g zero h = where-none f ∙ sym (where-none g)
-where-same f g (suc n) h = rw (where-more f n, where-more g n, where-same f g n (λ i l. h i (omega arith)), h n (omega arith))
+where-same f g (suc n) h =
+    rw (where-more f n, where-more g n, where-same f g n (λ i l. h i (omega arith)), h n (omega arith))
 
 -- of none is f true
 pub where-empty : (f : ℕ → Bool) (n : ℕ) → ((i : ℕ) → i < n → f i ≡ false) → setWhere f n ≡ 0
@@ -112,7 +114,8 @@ task-or x y (suc i) = rw (lt-ltb 0 (suc i) (omega arith)) (has-or x y (suc i - 1
 -- a number below 2 ^ n names no task above n
 pub task-above : (n x k : ℕ) → x < 2 ^ n → n < k → hasTask x k ≡ false
 task-above n x zero l h = absurd (omega arith)
-task-above n x (suc i) l h = rw (lt-ltb 0 (suc i) (omega arith)) (bit-none x (suc i - 1) (bit-above n x (suc i - 1) l (omega arith)))
+task-above n x (suc i) l h =
+    rw (lt-ltb 0 (suc i) (omega arith)) (bit-none x (suc i - 1) (bit-above n x (suc i - 1) l (omega arith)))
 
 module _ (f : ℕ → Bool) (i : ℕ) where
   pub tasks-or : i < mostTasks → f (i + 1) ≡ true → bitOr (tasksWhere f i) (taskBit (i + 1)) ≡ tasksWhere f (i + 1)

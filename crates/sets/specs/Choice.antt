@@ -1,4 +1,5 @@
--- Which partitions a starting job of A = a gets out of the set `idle`. Step 5 of document 01: the lowest-numbered idle ones.
+-- Which partitions a starting job of A = a gets out of the set `idle`. Step 5 of document 01: the lowest-numbered idle
+-- ones.
 use Prim.Native.Nat.{ℕ}
 use lib.ListN.{take}
 use Rattle.table.specs.Limits.{mostPartitions}

@@ -65,4 +65,4 @@ module _ (t : Table) (k : ℕ) where
 pub listing-adds-up : ListingAddsUp
 listing-adds-up t k one h =
     let e = in-all t k (t .n) (t .n) one h ∙ shares-add-up t k .0 in
-    (e, ap (less (limit t k)) (sym e))
+    record { toLoad = e; toMargin = ap (less (limit t k)) e }

@@ -42,11 +42,12 @@ sharesIn k [] = 0
 sharesIn k (row ∷ rows) = cond (eqb (getD row 0 0) k) (getD row 4 0) 0 + sharesIn k rows
 
 -- In the listing the shares of a task add up to its load, and its limit less that sum is its margin.
+pub record AddsUp (t : Table) (k : ℕ) : Type 0 where
+  pub toLoad : sharesIn k (pairRows t) ≡ load t k
+  pub toMargin : less (limit t k) (sharesIn k (pairRows t)) ≡ margin t k
+
 abbrev pub ListingAddsUp : Type 0
-ListingAddsUp = (t : Table)
-    → Each (t .n)
-    (λ k.
-    (sharesIn k (pairRows t) ≡ load t k) × (margin t k ≡ less (limit t k) (sharesIn k (pairRows t))))
+ListingAddsUp = (t : Table) → Each (t .n) (AddsUp t)
 
 -- What "admit" and "explain" write for the same texts: one refusal, or two listings of one table that is not refused.
 pub data SideBySide (admits explains : List ℕ) : Type 0 where

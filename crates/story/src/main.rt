@@ -1,4 +1,5 @@
-// A machine in use by one clinic is set up anew for the next: it holds nothing of the old, and a table that is refused leaves it at work.
+// A machine in use by one clinic is set up anew for the next: it holds nothing of the old, and a table that is refused
+// leaves it at work.
 // Every step goes through the lent forms.
 use gorsetumble::lending;
 use machine::Machine;

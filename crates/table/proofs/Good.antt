@@ -35,7 +35,8 @@ good-row p τ e =
       room = ltb-false p (A τ) (r8 .0);
     }
 
-rows-good : (p k : ℕ) (τs : List Task) → rowsFrom p k τs .number ≡ 0 → (i : ℕ) → i < length τs → rowRefusal p (getD τs i noTask) ≡ 0
+rows-good : (p k : ℕ) (τs : List Task) → rowsFrom p k τs .number ≡ 0 → (i : ℕ) → i < length τs
+    → rowRefusal p (getD τs i noTask) ≡ 0
 unfolding rowsFrom
 rows-good p k [] e i l = absurd (not-suc-le-zero l)
 rows-good p k (τ ∷ τs) e i l = by (eqb (rowRefusal p τ) 0) refl i l (λ q j m. rows-good p (suc k) τs q j m) e
@@ -48,14 +49,16 @@ rows-good p k (τ ∷ τs) e i l = by (eqb (rowRefusal p τ) 0) refl i l (λ q j
     by true w (suc i) l rec e = rec e i (le-of-suc-le-suc l)
     by false w i l rec e = absurd (eqb-false (rowRefusal p τ) 0 w e)
 
-rows-none : (p k : ℕ) (τs : List Task) → ((i : ℕ) → i < length τs → rowRefusal p (getD τs i noTask) ≡ 0) → rowsFrom p k τs .number ≡ 0
+rows-none : (p k : ℕ) (τs : List Task) → ((i : ℕ) → i < length τs → rowRefusal p (getD τs i noTask) ≡ 0)
+    → rowsFrom p k τs .number ≡ 0
 unfolding rowsFrom
 rows-none p k [] h = refl
 rows-none p k (τ ∷ τs) h =
     rw (eq-eqb (rowRefusal p τ) 0 (h 0 (omega arith))) (rows-none p (suc k) τs (λ i l. h (suc i) (suc-le-suc l)))
 
 -- no rule of the table itself is given, and none of a row
-passed : (t : Table) → refusal t .number ≡ 0 → (sizesRefusal t ≡ 0) × (rowsFrom (P t) 1 (take (t .n) (t .rows)) .number ≡ 0)
+passed : (t : Table) → refusal t .number ≡ 0
+    → (sizesRefusal t ≡ 0) × (rowsFrom (P t) 1 (take (t .n) (t .rows)) .number ≡ 0)
 unfolding refusal
 passed t e = by (eqb (sizesRefusal t) 0) refl e
   where
@@ -85,12 +88,15 @@ module _ (t : Table) (len : length (t .rows) ≡ mostTasks) where
   pub row-unrefused : refusal t .number ≡ 0 → (i : ℕ) → i < t .n → rowRefusal (P t) (τ t (suc i)) ≡ 0
   row-unrefused e i l =
       let few : t .n ≤ mostTasks = good-sizes t (passed t e .0) .few in
-      rw (getD-take (t .n) (t .rows) i noTask l) at (rows-good (P t) 1 (take (t .n) (t .rows)) (passed t e .1) i (simp length-take (omega arith)))
+      rw (getD-take (t .n) (t .rows) i noTask l) at
+      (rows-good (P t) 1 (take (t .n) (t .rows)) (passed t e .1) i (simp length-take (omega arith)))
 
-  pub not-refused-of : sizesRefusal t ≡ 0 → ((i : ℕ) → i < t .n → rowRefusal (P t) (τ t (suc i)) ≡ 0) → refusal t .number ≡ 0
+  pub not-refused-of : sizesRefusal t ≡ 0
+      → ((i : ℕ) → i < t .n → rowRefusal (P t) (τ t (suc i)) ≡ 0) → refusal t .number ≡ 0
   unfolding refusal
   not-refused-of e h =
-      rw (eq-eqb (sizesRefusal t) 0 e) (rows-none (P t) 1 (take (t .n) (t .rows)) (λ i l. rw (getD-take (t .n) (t .rows) i noTask (in-n i l)) (h i (in-n i l))))
+      rw (eq-eqb (sizesRefusal t) 0 e) (rows-none (P t) 1 (take (t .n) (t .rows))
+      (λ i l. rw (getD-take (t .n) (t .rows) i noTask (in-n i l)) (h i (in-n i l))))
     where
       in-n : (i : ℕ) → i < length (take (t .n) (t .rows)) → i < t .n
       in-n i l = omega (arith, simp length-take at l)

@@ -45,7 +45,8 @@ rows-carry p k [] = record { number = omega arith; row = omega arith }
 rows-carry p k (τ ∷ τs) = by (eqb (rowRefusal p τ) 0) (rows-carry p (suc k) τs)
   where
     by : (b : Bool) → Carries (suc k + length τs) (rowsFrom p (suc (suc k)) τs)
-        → Carries (k + suc (length τs)) (cond b (rowsFrom p (suc (suc k)) τs) (record { number = rowRefusal p τ; row = suc k }))
+        → Carries (k + suc (length τs))
+        (cond b (rowsFrom p (suc (suc k)) τs) (record { number = rowRefusal p τ; row = suc k }))
     by true h = record { number = h .number; row = omega (arith, h .row) }
     by false h = record { number = row-most p τ; row = omega arith }
 
@@ -54,6 +55,7 @@ unfolding refusal
 refusal-carries t len = by (eqb (sizesRefusal t) 0) (rows-carry (P t) 0 (take (t .n) (t .rows)))
   where
     by : (b : Bool) → Carries (0 + length (take (t .n) (t .rows))) (rowsFrom (P t) 1 (take (t .n) (t .rows)))
-        → Carries mostTasks (cond b (rowsFrom (P t) 1 (take (t .n) (t .rows))) (record { number = sizesRefusal t; row = 0 }))
+        → Carries mostTasks
+        (cond b (rowsFrom (P t) 1 (take (t .n) (t .rows))) (record { number = sizesRefusal t; row = 0 }))
     by true h = record { number = h .number; row = omega (arith, h .row, length-take (t .n) (t .rows)) }
     by false h = record { number = sizes-most t; row = omega arith }

@@ -1,4 +1,5 @@
--- Refusals 1 to 8 of a table, in the order and the words of document 01: 1, 2, 3, then row by row 4 to 8, with the lowest row.
+-- Refusals 1 to 8 of a table, in the order and the words of document 01: 1, 2, 3, then row by row 4 to 8, with the
+-- lowest row.
 use Prim.Native.Nat.{ℕ, suc}
 use mathlib.Core.Bool.{Bool, cond}
 use mathlib.Core.List.{List, [], _∷_}

@@ -15,7 +15,8 @@ noTask = record { d = 0; t = 0; c = 0; a = record { 0 = 0 } }
 abbrev pub emptyTable : Platform → Table
 emptyTable platform = record { platform = platform; n = 0; rows = replicate mostTasks noTask }
 
--- The table of a row of tasks, however many: its count is the whole row's, so that 33 earn refusal 1 and are never cut to 32.
+-- The table of a row of tasks, however many: its count is the whole row's, so that 33 earn refusal 1 and are never cut
+-- to 32.
 abbrev pub tableOf : Platform → List Task → Table
 tableOf platform tasks = record { platform = platform; n = length tasks; rows = padded mostTasks noTask tasks }
 

@@ -35,10 +35,12 @@ tasks-back : (xs : List Task) → map taskOf (map taskRow xs) ≡ xs
 tasks-back [] = refl
 tasks-back (x ∷ xs) = ap {B = List Task} (λ r. x ∷ r) (tasks-back xs)
 
-table-back : (t : Table) → NarrowRows t → tableRead (t .platform) (read tasksForm (tasksText t)) ≡ record { refused = noRefusal; table = tableWritten t }
+table-back : (t : Table) → NarrowRows t
+    → tableRead (t .platform) (read tasksForm (tasksText t)) ≡ record { refused = noRefusal; table = tableWritten t }
 table-back t w =
     ap (tableRead (t .platform)) (complete tasksForm _ (many-rows tasksForm refl _ w))
-    ∙ ap (λ (xs : List Task). record { refused = noRefusal; table = tableOf (t .platform) xs }) (tasks-back (take (t .n) (t .rows)))
+    ∙ ap (λ (xs : List Task). record { refused = noRefusal; table = tableOf (t .platform) xs })
+    (tasks-back (take (t .n) (t .rows)))
 
 module _ (t : Table) (len : length (t .rows) ≡ mostTasks) where
   module _ (few : t .n ≤ mostTasks) where
@@ -46,12 +48,14 @@ module _ (t : Table) (len : length (t .rows) ≡ mostTasks) where
     size = length-take-le (t .n) (t .rows) (omega arith)
 
     held : (i : ℕ) → i < t .n → getD (tableWritten t .rows) i noTask ≡ getD (t .rows) i noTask
-    held i l = getD-padded noTask mostTasks (take (t .n) (t .rows)) i (omega arith) ∙ getD-take (t .n) (t .rows) i noTask l
+    held i l = getD-padded noTask mostTasks (take (t .n) (t .rows)) i (omega arith)
+        ∙ getD-take (t .n) (t .rows) i noTask l
 
     first-rows : take (t .n) (tableWritten t .rows) ≡ take (t .n) (t .rows)
     first-rows =
         let all = length-padded noTask mostTasks (take (t .n) (t .rows)) in
-        let both : length (take (t .n) (tableWritten t .rows)) ≡ t .n = length-take-le (t .n) (tableWritten t .rows) (omega arith) in
+        let both : length (take (t .n) (tableWritten t .rows)) ≡ t .n =
+        length-take-le (t .n) (tableWritten t .rows) (omega arith) in
         ext-getD noTask _ _ (both ∙ sym size)
         (λ i l. let h : i < t .n = omega arith in
         getD-take (t .n) (tableWritten t .rows) i noTask h ∙ held i h ∙ sym (getD-take (t .n) (t .rows) i noTask h))
@@ -59,7 +63,8 @@ module _ (t : Table) (len : length (t .rows) ≡ mostTasks) where
     rows-same : NonePast t → tableWritten t .rows ≡ t .rows
     rows-same past = ext-getD noTask _ _ (length-padded noTask mostTasks _ ∙ sym len) at
       where
-        at : (i : ℕ) → i < length (tableWritten t .rows) → getD (tableWritten t .rows) i noTask ≡ getD (t .rows) i noTask
+        at : (i : ℕ) → i < length (tableWritten t .rows)
+            → getD (tableWritten t .rows) i noTask ≡ getD (t .rows) i noTask
         at i l =
             let in32 : i < mostTasks = omega (arith, length-padded noTask mostTasks (take (t .n) (t .rows))) in
             elim (decLt i (t .n)) [

@@ -18,18 +18,22 @@ use Rattle.texts.specs.Admit.{admitText}
 use Rattle.texts.specs.Verdict.{verdict}
 
 module _ (there : Bool) (text : List ℕ) where
-  pub take-platform-determined : (r s : PlatformRead) → r ≡ platformRead (taken platformForm there text) → s ≡ platformRead (taken platformForm there text) → r ≡ s
+  pub take-platform-determined : (r s : PlatformRead) → r ≡ platformRead (taken platformForm there text)
+      → s ≡ platformRead (taken platformForm there text) → r ≡ s
   take-platform-determined = determined (platformRead (taken platformForm there text))
 
-  pub take-tasks-determined : (p : Platform) (r s : TableRead) → r ≡ tableRead p (taken tasksForm there text) → s ≡ tableRead p (taken tasksForm there text) → r ≡ s
+  pub take-tasks-determined : (p : Platform) (r s : TableRead) → r ≡ tableRead p (taken tasksForm there text)
+      → s ≡ tableRead p (taken tasksForm there text) → r ≡ s
   take-tasks-determined p = determined (tableRead p (taken tasksForm there text))
 
-  pub take-ticks-determined : (r s : TicksRead) → r ≡ ticksRead (taken ticksForm there text) → s ≡ ticksRead (taken ticksForm there text) → r ≡ s
+  pub take-ticks-determined : (r s : TicksRead) → r ≡ ticksRead (taken ticksForm there text)
+      → s ≡ ticksRead (taken ticksForm there text) → r ≡ s
   take-ticks-determined = determined (ticksRead (taken ticksForm there text))
 
 module _ (platform tasks : List ℕ) where
   pub admit-determined : (platformThere tasksThere : Bool) (out : List ℕ) (r s : Written) (a b : List ℕ)
-      → Wrote (admitText platformThere platform tasksThere tasks) out r a → Wrote (admitText platformThere platform tasksThere tasks) out s b → (r ≡ s) × (a ≡ b)
+      → Wrote (admitText platformThere platform tasksThere tasks) out r a
+      → Wrote (admitText platformThere platform tasksThere tasks) out s b → (r ≡ s) × (a ≡ b)
   admit-determined platformThere tasksThere = wrote-determined (admitText platformThere platform tasksThere tasks)
 
   pub quick-verdict-determined : (r s : ℕ) → r ≡ verdict platform tasks → s ≡ verdict platform tasks → r ≡ s

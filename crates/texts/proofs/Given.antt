@@ -44,14 +44,14 @@ taken-found F there bytes rows e = go (there && leb (length bytes) longest) refl
 
 -- the platform, and then the table
 module _ {A : Type 0} (bad : Refusal → A) (good : Table → A) where
-  pub platform-bad : (x y : Answer (List (List ℕ))) (p : PlatformRead) → p ≡ platformRead x → (p .refused .number ≡ 0 → ⊥)
-      → given bad good x y ≡ bad (p .refused)
+  pub platform-bad : (x y : Answer (List (List ℕ))) (p : PlatformRead) → p ≡ platformRead x
+      → (p .refused .number ≡ 0 → ⊥) → given bad good x y ≡ bad (p .refused)
   platform-bad (found rows) y p e h = absurd (h (ap (λ (q : PlatformRead). q .refused .number) e))
   platform-bad (refused offset) y p e h = ap (λ (q : PlatformRead). bad (q .refused)) (sym e)
 
   module _ (p : PlatformRead) (none : p .refused .number ≡ 0) (t : TableRead) where
-    pub table-bad : (x y : Answer (List (List ℕ))) → p ≡ platformRead x → t ≡ tableRead (p .platform) y → (t .refused .number ≡ 0 → ⊥)
-        → given bad good x y ≡ bad (t .refused)
+    pub table-bad : (x y : Answer (List (List ℕ))) → p ≡ platformRead x → t ≡ tableRead (p .platform) y
+        → (t .refused .number ≡ 0 → ⊥) → given bad good x y ≡ bad (t .refused)
     table-bad (refused offset) y e f h = absurd (no (sym none ∙ ap (λ (q : PlatformRead). q .refused .number) e))
       where
         no : _≡_ {A = ℕ} 0 15 → ⊥
@@ -59,20 +59,24 @@ module _ {A : Type 0} (bad : Refusal → A) (good : Table → A) where
     table-bad (found platform) (found rows) e f h = absurd (h (ap (λ (q : TableRead). q .refused .number) f))
     table-bad (found platform) (refused offset) e f h = ap (λ (q : TableRead). bad (q .refused)) (sym f)
 
-    pub table-good : (x y : Answer (List (List ℕ))) → p ≡ platformRead x → t ≡ tableRead (p .platform) y → t .refused .number ≡ 0
-        → given bad good x y ≡ good (t .table)
+    pub table-good : (x y : Answer (List (List ℕ))) → p ≡ platformRead x → t ≡ tableRead (p .platform) y
+        → t .refused .number ≡ 0 → given bad good x y ≡ good (t .table)
     table-good (refused offset) y e f h = absurd (no (sym none ∙ ap (λ (q : PlatformRead). q .refused .number) e))
       where
         no : _≡_ {A = ℕ} 0 15 → ⊥
         no e = omega arith
-    table-good (found platform) (refused offset) e f h = absurd (no (sym h ∙ ap (λ (q : TableRead). q .refused .number) f))
+    table-good (found platform) (refused offset) e f h =
+        absurd (no (sym h ∙ ap (λ (q : TableRead). q .refused .number) f))
       where
         no : _≡_ {A = ℕ} 0 15 → ⊥
         no e = omega arith
     table-good (found platform) (found rows) e f h =
-        ap (λ (q : TableRead). good (q .table)) (sym (f ∙ ap (λ (q : PlatformRead). tableRead (q .platform) (found rows)) e))
+        ap (λ (q : TableRead). good (q .table))
+        (sym (f ∙ ap (λ (q : PlatformRead). tableRead (q .platform) (found rows)) e))
 
 -- a table that was read has room for 32 rows
-pub rows-32 : (platform : Platform) (y : Answer (List (List ℕ))) (t : TableRead) → t ≡ tableRead platform y → length (t .table .rows) ≡ mostTasks
-rows-32 platform (found rows) t e = ap (λ (q : TableRead). length (q .table .rows)) e ∙ length-padded noTask mostTasks (map taskOf rows)
+pub rows-32 : (platform : Platform) (y : Answer (List (List ℕ))) (t : TableRead) → t ≡ tableRead platform y
+    → length (t .table .rows) ≡ mostTasks
+rows-32 platform (found rows) t e = ap (λ (q : TableRead). length (q .table .rows)) e
+    ∙ length-padded noTask mostTasks (map taskOf rows)
 rows-32 platform (refused offset) t e = ap (λ (q : TableRead). length (q .table .rows)) e

@@ -61,15 +61,19 @@ offset-most F there bytes k e = go (there && leb (length bytes) longest) refl e
     within : read F bytes ≡ refused k → k ≤ length bytes
     within f = (rw f at (reads F bytes)) .offset .inside
 
-    go : (b : Bool) → (there && leb (length bytes) longest) ≡ b → cond b (read F bytes) (refused 0) ≡ refused k → k ≤ longest
-    go true t f = omega (arith, within f, leb-true (length bytes) longest (both there (leb (length bytes) longest) t .1))
+    go : (b : Bool) → (there && leb (length bytes) longest) ≡ b
+        → cond b (read F bytes) (refused 0) ≡ refused k → k ≤ longest
+    go true t f =
+        omega (arith, within f, leb-true (length bytes) longest (both there (leb (length bytes) longest) t .1))
     go false t f = let z : k ≡ 0 = cc in omega arith
 
-pub bad-most : (F : Form) (there : Bool) (bytes : List ℕ) (k : ℕ) → taken F there bytes ≡ refused k → length (refusedText (badText k)) ≤ 23
+pub bad-most : (F : Form) (there : Bool) (bytes : List ℕ) (k : ℕ) → taken F there bytes ≡ refused k
+    → length (refusedText (badText k)) ≤ 23
 bad-most F there bytes k e = refused-most (badText k) (omega arith) (offset-most F there bytes k e)
 
 pub table-most : (t : Table) → length (t .rows) ≡ mostTasks → length (refusedText (refusal t)) ≤ 23
-table-most t len = let c = refusal-carries t len in refused-most (refusal t) (omega (arith, c .number)) (omega (arith, c .row))
+table-most t len = let c = refusal-carries t len in
+    refused-most (refusal t) (omega (arith, c .number)) (omega (arith, c .row))
 
 -- a row of the margins
 sign-most : (b : Bool) → length (sign b) ≤ 1
@@ -79,7 +83,8 @@ sign-most false = omega arith
 cells-most : (k size pass : ℕ) (below : Bool) → k < 100 → size < 10 ^ 19 → pass < 10
     → length (digits k ++ ending 2 ++ (sign below ++ (digits size ++ ending 1 ++ (digits pass ++ ending 0)))) ≤ 27
 cells-most k size pass below h g f =
-    simp length-append (omega (arith, width-most 1 k (omega arith), sign-most below, width-most 18 size g, width-one pass f))
+    simp length-append
+    (omega (arith, width-most 1 k (omega arith), sign-most below, width-most 18 size g, width-one pass f))
 
 margin-most : (k : ℕ) (z : ℤ) → k < 100 → mag z < 2 ^ 63 → length (marginRow k (marginOf z)) ≤ 27
 unfolding marginRow
@@ -119,7 +124,11 @@ module _ (t : Table) (g : Good t) where
       let size = length-take (t .n) (margins t) in
       let all = length-tabulate f mostTasks in
       let less : i < t .n = omega arith in
-      rw (getD-take (t .n) (margins t) i (pos 0) less, getD-tabulate f mostTasks i (pos 0) (omega arith), le-leb (suc i) (t .n) less) (margin-fits i less)
+      rw (
+        getD-take (t .n) (margins t) i (pos 0) less,
+        getD-tabulate f mostTasks i (pos 0) (omega arith),
+        le-leb (suc i) (t .n) less,
+      ) (margin-fits i less)
 
   margins-most : length (marginsText (t .n) (margins t)) ≤ admitMost
   unfolding marginsText
@@ -137,7 +146,8 @@ judged-most t len = go (unrefused t) refl
         → length (answerText (t .n)
         (cond b
         (record { refused = refusal t; admitted = admitted t; first = firstFailing t; margins = margins t })
-        (record { refused = refusal t; admitted = false; first = 0; margins = tabulate mostTasks (λ k. pos 0) }))) ≤ admitMost
+        (record { refused = refusal t; admitted = false; first = 0; margins = tabulate mostTasks (λ k. pos 0) })))
+        ≤ admitMost
     go true e = rw e (margins-most t (good-of t len (eqb-true _ _ e)))
     go false e = rw e (omega (arith, table-most t len))
 
@@ -145,8 +155,8 @@ pub admit-fits : AdmitFits
 unfolding admitText
 admit-fits pThere p tThere t = go (taken platformForm pThere p) refl (taken tasksForm tThere t) refl
   where
-    go : (x : Answer (List (List ℕ))) → taken platformForm pThere p ≡ x → (y : Answer (List (List ℕ))) → taken tasksForm tThere t ≡ y
-        → length (given refusedText judged x y) ≤ admitMost
+    go : (x : Answer (List (List ℕ))) → taken platformForm pThere p ≡ x → (y : Answer (List (List ℕ)))
+        → taken tasksForm tThere t ≡ y → length (given refusedText judged x y) ≤ admitMost
     go (refused k) e y f = omega (arith, bad-most platformForm pThere p k e)
     go (found rows) e (refused k) f = omega (arith, bad-most tasksForm tThere t k f)
     go (found rows) e (found more) f = judged-most _ (length-padded noTask mostTasks _)

@@ -22,8 +22,8 @@ unfoldable pub admitText : Bool → List ℕ → Bool → List ℕ → List ℕ
 admitText platformThere platform tasksThere tasks =
     given refusedText judged (taken platformForm platformThere platform) (taken tasksForm tasksThere tasks)
 
--- The program's buffer, `ADMIT_MOST`: a header of 18 bytes, and a row of at most 27 for each task, whose number has two digits, whose margin has
--- a sign and 19.
+-- The program's buffer, `ADMIT_MOST`: a header of 18 bytes, and a row of at most 27 for each task, whose number has two
+-- digits, whose margin has a sign and 19.
 abbrev pub admitMost : ℕ
 admitMost = 18 + 27 * mostTasks
 

@@ -36,9 +36,11 @@ pub record WritesBack : Type 0 where
   -- each writes a good text of its form
   pub platformGood : (p : Platform) → NarrowPlatform p → GoodText platformForm (platformText p)
   pub tasksGood : (t : Table) → NarrowRows t → GoodText tasksForm (tasksText t)
-  pub ticksGood : (released finished : List ℕ) → NarrowTicks released finished → GoodText ticksForm (reportsText released finished)
+  pub ticksGood : (released finished : List ℕ) → NarrowTicks released finished
+      → GoodText ticksForm (reportsText released finished)
   -- the readers give back what was written
-  pub platformBack : (p : Platform) → NarrowPlatform p → platformRead (read platformForm (platformText p)) ≡ record { refused = noRefusal; platform = p }
+  pub platformBack : (p : Platform) → NarrowPlatform p
+      → platformRead (read platformForm (platformText p)) ≡ record { refused = noRefusal; platform = p }
   pub tasksBack : (t : Table) → NarrowRows t
       → tableRead (t .platform) (read tasksForm (tasksText t)) ≡ record { refused = noRefusal; table = tableWritten t }
   pub ticksBack : (released finished : List ℕ) → NarrowTicks released finished
@@ -48,4 +50,5 @@ pub record WritesBack : Type 0 where
       → (tableWritten t .n ≡ t .n) × (take (t .n) (tableWritten t .rows) ≡ take (t .n) (t .rows))
   pub same : (t : Table) → length (t .rows) ≡ mostTasks → t .n ≤ mostTasks → NonePast t → tableWritten t ≡ t
   -- of more it is the 32 that are there
-  pub cut : (t : Table) → length (t .rows) ≡ mostTasks → mostTasks < t .n → tableWritten t ≡ tableOf (t .platform) (t .rows)
+  pub cut : (t : Table) → length (t .rows) ≡ mostTasks → mostTasks < t .n
+      → tableWritten t ≡ tableOf (t .platform) (t .rows)

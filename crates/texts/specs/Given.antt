@@ -1,5 +1,5 @@
--- Two texts give a table, or the refusal of the first that is not of its form: the platform is read whole first. Programs take a text only
--- if it is there and not over 60,000 bytes; any other is refused with 15 and 0.
+-- Two texts give a table, or the refusal of the first that is not of its form: the platform is read whole first.
+-- Programs take a text only if it is there and not over 60,000 bytes; any other is refused with 15 and 0.
 use Prim.Native.Nat.{ℕ}
 use mathlib.Core.Bool.{Bool, cond, _&&_}
 use mathlib.Core.List.{List}

@@ -1,5 +1,5 @@
--- The one number that the board's start-up code gets for two texts: 0 for admitted, 100 and the first task that does not pass, or the
--- number of the refusal. No text is too long here.
+-- The one number that the board's start-up code gets for two texts: 0 for admitted, 100 and the first task that does
+-- not pass, or the number of the refusal. No text is too long here.
 use Prim.Native.Nat.{ℕ, _+_}
 use mathlib.Core.Bool.{cond}
 use mathlib.Core.List.{List}

@@ -66,7 +66,8 @@ pub fn admit(
     tasks: &[u8],
     out: &mut [u8],
 ) -> Written
-    ensures { λ r. ⌜ Wrote (admitText «platform_there» (now (platform .entry)) «tasks_there» (now (tasks .entry))) (now (out .entry)) r (now (out .exit)) ⌝ }
+    ensures { λ r. ⌜ Wrote (admitText «platform_there» (now (platform .entry)) «tasks_there» (now (tasks .entry)))
+        (now (out .entry)) r (now (out .exit)) ⌝ }
 {
     let p = take_platform(platform_there, platform);
     if p.refused.number != 0 {

@@ -63,7 +63,8 @@ module _ (m : Machine) where
         runs = running-none;
       }
 
-  pub passed-more : (i held count one : ℕ) → Passed i held count → goodTask m (suc i) ≡ true → bitAnd held (job m (suc i) .held) ≡ 0
+  pub passed-more : (i held count one : ℕ) → Passed i held count → goodTask m (suc i) ≡ true
+      → bitAnd held (job m (suc i) .held) ≡ 0
       → one ≡ cond (runs m (suc i)) 1 0 → Passed (i + 1) (bitOr held (job m (suc i) .held)) (count + one)
   passed-more i held count one p g a e =
       record {

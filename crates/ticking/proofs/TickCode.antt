@@ -73,12 +73,18 @@ module _ (m : Machine) (released finished : ℕ) where
             ap (λ (k : ℕ). machineOf (m .table) (jobsTo k)) all ∙ sym (moved-is m released finished a seen l) in
             let late : turnsOf entriesOf .late ≡ lateSet m (finish finished (passed m)) =
             ap (λ (k : ℕ). turnsOf k .late) all ∙ sym (late-so m released finished a seen l) in
-            let started : turnsOf entriesOf .started ≡ startedSet (readied m released finished) (moved m released finished) =
+            let started : turnsOf entriesOf .started
+            ≡ startedSet (readied m released finished) (moved m released finished) =
             ap (λ (k : ℕ). turnsOf k .started) all ∙ sym (started-so m released finished a seen l) in
             λ i.
             record {
               machine = machine i;
-              answer = record { refused = tickRefusal m released finished; finished = finished; late = late i; started = started i };
+              answer = record {
+                refused = tickRefusal m released finished;
+                finished = finished;
+                late = late i;
+                started = started i;
+              };
             }
         by false w =
             let first = sym (walk-none m released finished (walkStart (m .table .platform) seen)) in
@@ -96,10 +102,12 @@ module _ (m : Machine) (released finished : ℕ) where
             }
 
     -- a job moves only in an accepted tick, and only one of the table
-    pub moves : (i : ℕ) → i < cond (accepted m released finished) entriesOf 0 → Accepts m released finished × (i < m .table .n)
+    pub moves : (i : ℕ) → i < cond (accepted m released finished) entriesOf 0
+        → Accepts m released finished × (i < m .table .n)
     moves i = by (accepted m released finished) refl
       where
-        by : (b : Bool) → accepted m released finished ≡ b → i < cond b entriesOf 0 → Accepts m released finished × (i < m .table .n)
+        by : (b : Bool) → accepted m released finished ≡ b → i < cond b entriesOf 0
+            → Accepts m released finished × (i < m .table .n)
         by true w l = (accepts m released finished rows w, omega arith)
         by false w l = absurd (omega arith)
 

@@ -26,7 +26,8 @@ walked r w i = record { table = r .table; jobs = upTo mostTasks (λ k. w k .job)
 module _ (r : Machine) (w : ℕ → Walk) where
   pub walked-none : length (r .jobs) ≡ mostTasks → walked r w 0 ≡ r
   walked-none len =
-      let same : walked r w 0 .jobs ≡ r .jobs = sym (up-none mostTasks (λ k. w k .job) (job r)) ∙ tabulate-entry (r .jobs) mostTasks noJob len in
+      let same : walked r w 0 .jobs ≡ r .jobs =
+      sym (up-none mostTasks (λ k. w k .job) (job r)) ∙ tabulate-entry (r .jobs) mostTasks noJob len in
       λ i. record { table = r .table; jobs = same i }
 
   module _ (i : ℕ) where
@@ -45,14 +46,16 @@ module _ (r : Machine) (w : ℕ → Walk) where
       pub walked-by : w (suc i) .job ≡ job r (suc i) → walked r w (suc i) ≡ walked r w i
       walked-by e =
           let was : w (suc i) .job ≡ job (walked r w i) (suc i) = e ∙ sym (walked-left i (omega arith) l) in
-          let same : walked r w (suc i) .jobs ≡ walked r w i .jobs = sym walked-more ∙ rw was (set-getD (walked r w i .jobs) i noJob) in
+          let same : walked r w (suc i) .jobs ≡ walked r w i .jobs =
+          sym walked-more ∙ rw was (set-getD (walked r w i .jobs) i noJob) in
           λ k. record { table = r .table; jobs = same k }
 
       -- the turn that is a start
-      pub walked-go : w (suc i) .job ≡ begun (choice (w i .idle) (A (τ (r .table) (suc i)))) (job r (suc i)) → w i .idle ≡ idleSet (walked r w i)
-          → walked r w (suc i) ≡ start (walked r w i) i
+      pub walked-go : w (suc i) .job ≡ begun (choice (w i .idle) (A (τ (r .table) (suc i)))) (job r (suc i))
+          → w i .idle ≡ idleSet (walked r w i) → walked r w (suc i) ≡ start (walked r w i) i
       walked-go e idle =
-          let new : w (suc i) .job ≡ begun (choice (idleSet (walked r w i)) (A (τ (r .table) (suc i)))) (job (walked r w i) (suc i)) =
+          let new : w (suc i) .job
+          ≡ begun (choice (idleSet (walked r w i)) (A (τ (r .table) (suc i)))) (job (walked r w i) (suc i)) =
           e ∙ rw (idle, walked-left i (omega arith) l) in
           let same : walked r w (suc i) .jobs ≡ start (walked r w i) i .jobs = sym walked-more ∙ rw new in
           λ k. record { table = r .table; jobs = same k }

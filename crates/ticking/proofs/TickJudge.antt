@@ -1,4 +1,5 @@
--- What the first pass and the pass over the entries past n come to: the refusal of the tick; and what an accepted tick is for each task.
+-- What the first pass and the pass over the entries past n come to: the refusal of the tick; and what an accepted tick
+-- is for each task.
 use Prim.Native.Nat.{ℕ, suc, _+_, _<_, _≤_, min}
 use mathlib.Core.Path.{_≡_, refl, sym, _∙_, ap}
 use mathlib.Core.Bool.{Bool, true, false, cond, _&&_, _||_}
@@ -40,7 +41,8 @@ zeroTo m k = every k (λ j. leb j (m .table .n) || zeroEntry m j)
 
 module _ (m : Machine) where
   pub zero-none : (k : ℕ) → k ≤ m .table .n → true ≡ zeroTo m k
-  zero-none k h = sym (every-of (λ j. leb j (m .table .n) || zeroEntry m j) k (λ i l. rw (le-leb (suc i) (m .table .n) (omega arith))))
+  zero-none k h = sym (every-of (λ j. leb j (m .table .n) || zeroEntry m j) k
+      (λ i l. rw (le-leb (suc i) (m .table .n) (omega arith))))
 
   pub zero-more : (k : ℕ) (past : Past) → m .table .n ≤ k → pastNone past ≡ zeroTo m k
       → pastNone (pastWith (τ (m .table) (suc k)) (job m (suc k)) past) ≡ zeroTo m (k + 1)
@@ -49,15 +51,18 @@ module _ (m : Machine) where
       past-more (τ (m .table) (suc k)) (job m (suc k)) past
       ∙ (ap (λ (b : Bool). b && zeroEntry m (suc k)) e ∙ rw (add-one k, lt-leb (suc k) (m .table .n) (omega arith)))
 
-module _ (m : Machine) (released finished past : ℕ) (len : length (m .table .rows) ≡ mostTasks) (zeros : eqb past 0 ≡ zeroTo m mostTasks) where
+module _ (m : Machine) (released finished past : ℕ) (len : length (m .table .rows) ≡ mostTasks)
+    (zeros : eqb past 0 ≡ zeroTo m mostTasks) where
   abbrev found : Look
   found = lookTo m released finished (min (m .table .n) mostTasks)
 
   zeros-of : goodState m ≡ true → zeroTo m mostTasks ≡ true
   unfolding goodState
   zeros-of e =
-      let a = both (eqb (refusal (m .table) .number) 0 && zeroTo m mostTasks && every (m .table .n) (goodTask m) && allApart (m .table .n) (λ i. job m (suc i) .held)) _ e in
-      let b = both (eqb (refusal (m .table) .number) 0 && zeroTo m mostTasks && every (m .table .n) (goodTask m)) _ (a .0) in
+      let a = both (eqb (refusal (m .table) .number) 0 && zeroTo m mostTasks && every (m .table .n) (goodTask m)
+      && allApart (m .table .n) (λ i. job m (suc i) .held)) _ e in
+      let b =
+      both (eqb (refusal (m .table) .number) 0 && zeroTo m mostTasks && every (m .table .n) (goodTask m)) _ (a .0) in
       let c = both (eqb (refusal (m .table) .number) 0 && zeroTo m mostTasks) _ (b .0) in
       both (eqb (refusal (m .table) .number) 0) _ (c .0) .1
 
@@ -90,7 +95,8 @@ module _ (m : Machine) (released finished past : ℕ) (len : length (m .table .r
       let is = all-of (g .table .sizes .few) in
       let t = m .table in
       let w : lookTo m released finished (m .table .n) .good ≡ true =
-      looks-good m released finished (sizes-unrefused t len (g .unrefused)) (t .n) (row-unrefused t len (g .unrefused)) (λ i l. job-test _ _ _ (g .each i l)) (g .apart) (t .n) (omega arith) in
+      looks-good m released finished (sizes-unrefused t len (g .unrefused)) (t .n) (row-unrefused t len (g .unrefused))
+      (λ i l. job-test _ _ _ (g .each i l)) (g .apart) (t .n) (omega arith) in
       let l = looked m released finished (t .n) w in
       let cores : lookTo m released finished (t .n) .running .0 ≤ M t = rw (l .jobs .runs, running-all m) (g .cores) in
       rw (is, w, zeros, zeros-of e) (le-leb _ _ cores)
@@ -106,14 +112,16 @@ module _ (m : Machine) (released finished past : ℕ) (len : length (m .table .r
       let g : lookTo m released finished (m .table .n) .good ≡ true = rw (← is) (good .0) in
       rw is (looked m released finished (m .table .n) g)
 
-  pub found-refusal : foundRefusal found past (m .table .platform .cores) (m .table .n) (bitOr released finished) ≡ tickRefusal m released finished
+  pub found-refusal : foundRefusal found past (m .table .platform .cores) (m .table .n) (bitOr released finished)
+      ≡ tickRefusal m released finished
   unfolding foundRefusal tickRefusal givenRefusal
   found-refusal = rw found-good (by (goodState m) refl)
     where
       nine : ℕ
       nine = firstAbove (bitOr released finished) (m .table .n)
 
-      first : goodState m ≡ true → cond (eqb nine 0) (found .refused) (refuses 9 nine) ≡ firstGiven (tickRules m released finished)
+      first : goodState m ≡ true
+          → cond (eqb nine 0) (found .refused) (refuses 9 nine) ≡ firstGiven (tickRules m released finished)
       first e = rw (found-looked e .refused, first-is m released finished (state-good m len e))
 
       by : (b : Bool) → goodState m ≡ b
@@ -129,9 +137,13 @@ pub record Accepts (m : Machine) (released finished : ℕ) : Type 0 where
   pub each : (i : ℕ) → i < m .table .n
       → Taken (τ (m .table) (suc i)) (hasTask released (suc i)) (hasTask finished (suc i)) (job m (suc i))
 
-pub accepts : (m : Machine) (released finished : ℕ) → length (m .table .rows) ≡ mostTasks → accepted m released finished ≡ true
-    → Accepts m released finished
+pub accepts : (m : Machine) (released finished : ℕ) → length (m .table .rows) ≡ mostTasks
+    → accepted m released finished ≡ true → Accepts m released finished
 accepts m released finished len e =
     let a = accepted-is m released finished e in
     let g = state-good m len (a .before .good) in
-    record { test = a .before .good; good = g; each = λ i l. taken m released finished (g .table .sizes .few) a (suc i) (omega arith) l }
+    record {
+      test = a .before .good;
+      good = g;
+      each = λ i l. taken m released finished (g .table .sizes .few) a (suc i) (omega arith) l;
+    }

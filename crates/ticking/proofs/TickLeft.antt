@@ -1,4 +1,5 @@
--- A task that idles and is in neither set: the first pass goes on with what it found before, and the second changes the task's age only.
+-- A task that idles and is in neither set: the first pass goes on with what it found before, and the second changes the
+-- task's age only.
 use Prim.Native.Nat.{ℕ, _+_}
 use mathlib.Core.Path.{_≡_, refl, sym, _∙_}
 use mathlib.Core.Bool.{Bool, true, false, cond, _&&_, and-false}
@@ -24,7 +25,8 @@ use Rattle.machine.proofs.StateTest.{job-good}
 use Rattle.ticking.proofs.TickRules.{neither}
 
 -- a good job that does not run holds nothing, and counts for nothing
-pub holds-none : (p : ℕ) (τ : Task) (j : Job) (l : Look) → admits p τ j l ≡ true → isRunning (j .stage) ≡ false → j .held ≡ 0
+pub holds-none : (p : ℕ) (τ : Task) (j : Job) (l : Look) → admits p τ j l ≡ true
+    → isRunning (j .stage) ≡ false → j .held ≡ 0
 holds-none p τ j l e n =
     let all = both (l .good && eqb (rowRefusal p τ) 0 && goodJob p τ j) _ e in
     let good = both (l .good && eqb (rowRefusal p τ) 0) _ (all .0) in
@@ -69,7 +71,8 @@ module _ (τ : Task) (j : Job) (released finished k : ℕ) (left : isLeft j (bit
   unnamed =
       neither _ _ (sym (task-or released finished k) ∙ not-true _ (both (isIdle (j .stage)) _ left .1))
 
-  pub look-left : (p : ℕ) (l : Look) → admits p τ j l ≡ true → l ≡ lookMore k τ j (hasTask released k) (hasTask finished k) l
+  pub look-left : (p : ℕ) (l : Look) → admits p τ j l ≡ true
+      → l ≡ lookMore k τ j (hasTask released k) (hasTask finished k) l
   look-left p l e =
       let all = both (l .good && eqb (rowRefusal p τ) 0 && goodJob p τ j) _ e in
       let row = both (l .good && eqb (rowRefusal p τ) 0) _ (all .0) in

@@ -1,4 +1,5 @@
--- The first pass over the tasks: that it finds good exactly the good states, which refusal it finds, and what it counts for step 5.
+-- The first pass over the tasks: that it finds good exactly the good states, which refusal it finds, and what it counts
+-- for step 5.
 use Prim.Native.Nat.{ℕ, zero, suc, _+_, _<_, _≤_, zero-le}
 use mathlib.Core.Path.{_≡_, refl, sym, _∙_}
 use mathlib.Core.Bool.{Bool, true, false, cond, _&&_, true≢false}
@@ -37,7 +38,8 @@ module _ (m : Machine) (released finished : ℕ) where
   unfolding lookTo
   look-none = refl
 
-  pub look-more : (i : ℕ) → lookWith (i + 1) (P (m .table)) (τ (m .table) (suc i)) (job m (suc i)) released finished (lookTo i) ≡ lookTo (i + 1)
+  pub look-more : (i : ℕ) → lookWith (i + 1) (P (m .table)) (τ (m .table) (suc i)) (job m (suc i)) released finished
+      (lookTo i) ≡ lookTo (i + 1)
   unfolding lookTo
   look-more i = rw add-one
 
@@ -72,7 +74,8 @@ module _ (m : Machine) (released finished : ℕ) where
   asked i l = admits (P (m .table)) (τ (m .table) (suc i)) (job m (suc i)) l
 
   abbrev more : ℕ → Look → Look
-  more i l = lookMore (suc i) (τ (m .table) (suc i)) (job m (suc i)) (hasTask released (suc i)) (hasTask finished (suc i)) l
+  more i l =
+      lookMore (suc i) (τ (m .table) (suc i)) (job m (suc i)) (hasTask released (suc i)) (hasTask finished (suc i)) l
 
   -- what is asked of one task more
   pub record Fits (i : ℕ) (l : Look) : Type 0 where
@@ -87,7 +90,8 @@ module _ (m : Machine) (released finished : ℕ) where
           sizes = k .sizes;
           rows = rw (← add-one i) (below-more _ i (k .rows) (f .row));
           jobs = rw (← add-one i) (passed-more m i _ _ _ (k .jobs) (f .good) (f .apart) refl);
-          running = add-kept (hasTask finished (suc i)) (l .stays) (job m (suc i)) ∙ rw (k .running) (sym (Σ-suc i stays));
+          running = add-kept (hasTask finished (suc i)) (l .stays) (job m (suc i))
+              ∙ rw (k .running) (sym (Σ-suc i stays));
           holds = or-kept (hasTask finished (suc i)) _ _ ∙ rw (k .holds) (sym (union-more (λ j. kept (suc j)) i));
           refused = rw (k .refused) (given-more m released finished i);
         }
@@ -95,13 +99,19 @@ module _ (m : Machine) (released finished : ℕ) where
     -- the test of it
     fits-of : asked i l ≡ true → (l .good ≡ true) × Fits i l
     fits-of e =
-        let all = both (l .good && eqb (rowRefusal (P (m .table)) (τ (m .table) (suc i))) 0 && goodTask m (suc i)) _ e in
+        let all =
+        both (l .good && eqb (rowRefusal (P (m .table)) (τ (m .table) (suc i))) 0 && goodTask m (suc i)) _ e in
         let one = both (l .good && eqb (rowRefusal (P (m .table)) (τ (m .table) (suc i))) 0) _ (all .0) in
         let two = both (l .good) _ (one .0) in
         (two .0, record { row = eqb-true _ _ (two .1); good = one .1; apart = eqb-true _ _ (all .1) })
 
     fits-test : l .good ≡ true → Fits i l → asked i l ≡ true
-    fits-test e f = rw (e, eq-eqb (rowRefusal (P (m .table)) (τ (m .table) (suc i))) 0 (f .row), f .good, eq-eqb (bitAnd (l .held) (job m (suc i) .held)) 0 (f .apart))
+    fits-test e f = rw (
+      e,
+      eq-eqb (rowRefusal (P (m .table)) (τ (m .table) (suc i))) 0 (f .row),
+      f .good,
+      eq-eqb (bitAnd (l .held) (job m (suc i) .held)) 0 (f .apart),
+    )
 
   pub looked : (i : ℕ) → lookTo i .good ≡ true → Looked i (lookTo i)
   unfolding lookTo lookWith
@@ -109,7 +119,8 @@ module _ (m : Machine) (released finished : ℕ) where
   looked (suc i) e = by (asked i (lookTo i)) refl (λ g. looked i g) e
     where
       by : (b : Bool) → asked i (lookTo i) ≡ b → (lookTo i .good ≡ true → Looked i (lookTo i))
-          → cond b (more i (lookTo i)) (lookBad (lookTo i)) .good ≡ true → Looked (suc i) (cond b (more i (lookTo i)) (lookBad (lookTo i)))
+          → cond b (more i (lookTo i)) (lookBad (lookTo i)) .good ≡ true
+          → Looked (suc i) (cond b (more i (lookTo i)) (lookBad (lookTo i)))
       by true w r g =
           let f = fits-of i (lookTo i) w in
           looked-more i (lookTo i) (r (f .0)) (f .1)
@@ -142,7 +153,8 @@ module _ (m : Machine) (released finished : ℕ) where
   look-small (suc i) = by (asked i (lookTo i)) (hasTask finished (suc i)) (one-le (runs m (suc i))) (look-small i)
     where
       next : Bool → Bool → Look
-      next b f = cond b (lookMore (suc i) (τ (m .table) (suc i)) (job m (suc i)) (hasTask released (suc i)) f (lookTo i)) (lookBad (lookTo i))
+      next b f = cond b (lookMore (suc i) (τ (m .table) (suc i)) (job m (suc i)) (hasTask released (suc i)) f
+          (lookTo i)) (lookBad (lookTo i))
 
       by : (b f : Bool) → cond (runs m (suc i)) 1 0 ≤ 1 → (lookTo i .running .0 ≤ i) × (lookTo i .stays .0 ≤ i)
           → (next b f .running .0 ≤ suc i) × (next b f .stays .0 ≤ suc i)

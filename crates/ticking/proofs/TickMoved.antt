@@ -22,7 +22,8 @@ use Rattle.ticking.proofs.TickStarts.{At, at-none, at-by, at-stop, at-g
 -- nobody waits
 calm-ends : (turns : ℕ) (m : Machine) → ((j : ℕ) → j < m .table .n → waits m (suc j) ≡ false) → startWaiting turns m ≡ m
 calm-ends zero m h = start-none m
-calm-ends (suc turns) m h = start-turn turns m ∙ ap (startPicked (startWaiting turns) m) (picks-none m (lowest-empty (waits m) (m .table .n) h))
+calm-ends (suc turns) m h = start-turn turns m
+    ∙ ap (startPicked (startWaiting turns) m) (picks-none m (lowest-empty (waits m) (m .table .n) h))
 
 -- a pass w over the tasks of r, which counts what is idle and in which waiting jobs hold nothing
 pub record Pass (r : Machine) (w : ℕ → Walk) (late : ℕ → ℕ) : Type 0 where
@@ -34,15 +35,19 @@ pub record Pass (r : Machine) (w : ℕ → Walk) (late : ℕ → ℕ) : Type 0 w
   pub partitions : w 0 .partitions ≡ idlePartitions r
   pub none : w 0 .started ≡ 0
   pub free : (i : ℕ) → i < r .table .n → waits r (suc i) ≡ true → job r (suc i) .held ≡ 0
-  pub turn : (i : ℕ) → i < r .table .n → w (suc i) ≡ walkBegin (suc i) (τ (r .table) (suc i)) (job r (suc i)) (late i) (w i)
+  pub turn : (i : ℕ) → i < r .table .n
+      → w (suc i) ≡ walkBegin (suc i) (τ (r .table) (suc i)) (job r (suc i)) (late i) (w i)
 
 module _ (r : Machine) (w : ℕ → Walk) (late : ℕ → ℕ) (p : Pass r w late) where
   at : (i : ℕ) → i ≤ r .table .n → At r w late i
   at zero l = at-none r w late (p .entries) (p .goes) (p .cores) (p .idle) (p .partitions) (p .none)
-  at (suc i) l = by (tries (job r (suc i)) (w i)) refl (hasRoom (τ (r .table) (suc i)) (w i)) refl (at i (omega arith)) (p .turn i l)
+  at (suc i) l = by (tries (job r (suc i)) (w i)) refl (hasRoom (τ (r .table) (suc i)) (w i)) refl
+      (at i (omega arith)) (p .turn i l)
     where
-      by : (a : Bool) → tries (job r (suc i)) (w i) ≡ a → (b : Bool) → hasRoom (τ (r .table) (suc i)) (w i) ≡ b → At r w late i
-          → w (suc i) ≡ cond a (cond b (walkGo (suc i) (τ (r .table) (suc i)) (job r (suc i)) (late i) (w i)) (walkBy false (job r (suc i)) (late i) (w i))) (walkBy (w i .goes) (job r (suc i)) (late i) (w i))
+      by : (a : Bool) → tries (job r (suc i)) (w i) ≡ a → (b : Bool)
+          → hasRoom (τ (r .table) (suc i)) (w i) ≡ b → At r w late i
+          → w (suc i) ≡ cond a (cond b (walkGo (suc i) (τ (r .table) (suc i)) (job r (suc i)) (late i) (w i))
+          (walkBy false (job r (suc i)) (late i) (w i))) (walkBy (w i .goes) (job r (suc i)) (late i) (w i))
           → At r w late (suc i)
       by false u b v a e = at-by r w late i (p .few) l a e u
       by true u false v a e = at-stop r w late i (p .few) l a u e v
@@ -57,4 +62,5 @@ module _ (r : Machine) (w : ℕ → Walk) (late : ℕ → ℕ) (p : Pass r w lat
 
   pub started-is : startedSet r (walked r w (r .table .n)) ≡ w (r .table .n) .started
   started-is =
-      where-same _ _ (r .table .n) (λ i l. rw (walked-done r w (r .table .n) i l (omega (arith, p .few)))) ∙ sym (at (r .table .n) (omega arith) .begun)
+      where-same _ _ (r .table .n) (λ i l. rw (walked-done r w (r .table .n) i l (omega (arith, p .few))))
+      ∙ sym (at (r .table .n) (omega arith) .begun)

@@ -1,4 +1,5 @@
--- The state before step 5 of an accepted tick, task by task: who runs in it, what is held, and that a job that waits holds nothing.
+-- The state before step 5 of an accepted tick, task by task: who runs in it, what is held, and that a job that waits
+-- holds nothing.
 use Prim.Native.Nat.{ℕ, suc, _<_, _≤_}
 use mathlib.Core.Path.{_≡_, refl, sym}
 use mathlib.Core.Bool.{Bool, true, false, cond, true≢false}
@@ -61,22 +62,28 @@ module _ (m : Machine) (released finished : ℕ) where
 
   module _ (a : Accepts m released finished) where
     pub ready-job : (i : ℕ) → i < m .table .n
-        → job (ready m released finished) (suc i) ≡ readiedJob (τ (m .table) (suc i)) (hasTask released (suc i)) (hasTask finished (suc i)) (job m (suc i))
+        → job (ready m released finished) (suc i)
+        ≡ readiedJob (τ (m .table) (suc i)) (hasTask released (suc i)) (hasTask finished (suc i)) (job m (suc i))
     ready-job i l = readied-job m (suc i) (omega arith) l (omega (arith, a .good .table .sizes .few)) released finished
 
     pub ready-running : Σ (m .table .n) (stays m released finished) ≡ running (ready m released finished)
     unfolding running
     ready-running =
         Σ-ext (m .table .n) (stays m released finished) (λ k. cond (runs (ready m released finished) k) 1 0)
-        (each (m .table .n) _ (λ i l. rw (ready-job i l) (sym (ready-runs (τ (m .table) (suc i)) (job m (suc i)) (hasTask released (suc i)) (hasTask finished (suc i)) (a .each i l)))))
+        (each (m .table .n) _ (λ i l. rw (ready-job i l) (sym (ready-runs (τ (m .table) (suc i)) (job m (suc i))
+        (hasTask released (suc i)) (hasTask finished (suc i)) (a .each i l)))))
 
     pub ready-busy : unionOf (m .table .n) (λ i. kept m released finished (suc i)) ≡ busy (ready m released finished)
     unfolding busy
     ready-busy =
-        union-same (λ i. kept m released finished (suc i)) (λ i. job (ready m released finished) (suc i) .held) (m .table .n)
-        (λ i l. rw (ready-job i l) (sym (ready-held (τ (m .table) (suc i)) (job m (suc i)) (hasTask released (suc i)) (hasTask finished (suc i)))))
+        union-same (λ i. kept m released finished (suc i))
+        (λ i. job (ready m released finished) (suc i) .held) (m .table .n)
+        (λ i l. rw (ready-job i l)
+        (sym (ready-held (τ (m .table) (suc i)) (job m (suc i)) (hasTask released (suc i)) (hasTask finished (suc i)))))
 
-    pub ready-waits : (i : ℕ) → i < m .table .n → waits (ready m released finished) (suc i) ≡ true → job (ready m released finished) (suc i) .held ≡ 0
+    pub ready-waits : (i : ℕ) → i < m .table .n → waits (ready m released finished) (suc i) ≡ true
+        → job (ready m released finished) (suc i) .held ≡ 0
     ready-waits i l e =
         rw (ready-job i l)
-        (ready-free (P (m .table)) (τ (m .table) (suc i)) (job m (suc i)) (hasTask released (suc i)) (hasTask finished (suc i)) (a .good .each i l) (a .each i l) (rw (ready-job i l) at e))
+        (ready-free (P (m .table)) (τ (m .table) (suc i)) (job m (suc i)) (hasTask released (suc i))
+        (hasTask finished (suc i)) (a .good .each i l) (a .each i l) (rw (ready-job i l) at e))

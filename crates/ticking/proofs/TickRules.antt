@@ -1,4 +1,5 @@
--- Refusals 9 to 13: from the rules, which go over 32 tasks and the states after steps 1 and 2, to what the code asks of tasks 1 to n.
+-- Refusals 9 to 13: from the rules, which go over 32 tasks and the states after steps 1 and 2, to what the code asks of
+-- tasks 1 to n.
 use Prim.Native.Nat.{ℕ, zero, suc, _+_, _^_, _<_, _≤_}
 use mathlib.Core.Path.{_≡_, refl, sym, _∙_, ap}
 use mathlib.Core.Bool.{Bool, true, false, cond, not, _&&_, _||_, true≢false, and-false}
@@ -9,7 +10,8 @@ use borrow.Author.Tests.{lt-ltb, le-ltb, ne-eqb, eqb-true}
 use lib.Bits.{bitOr}
 use lib.Dec.{ltb, eqb}
 use Rattle.maths.specs.Tasks.{lowest, orElse}
-use Rattle.maths.proofs.Tasks.{lowest-ext, lowest-empty, lowest-beyond, lowest-none, lowest-past, lowest-found, lowest-stays}
+use Rattle.maths.proofs.Tasks.{lowest-ext, lowest-empty, lowest-beyond, lowest-none, lowest-past, lowest-found}
+use Rattle.maths.proofs.Tasks.{lowest-stays}
 use Rattle.table.specs.declared.Refusal.{Refusal}
 use Rattle.table.specs.Limits.{mostTasks}
 use Rattle.table.specs.Tasks.{τ, T, C}
@@ -91,7 +93,8 @@ some n = ne-eqb (suc n) 0 (λ e. absurd (omega arith))
 
 first-more : (k a b c d : ℕ) (w x y z : Bool)
     → firstOf (givenRefusal 0 (given-of a b c d)) (numbered w x y z) (suc k)
-    ≡ givenRefusal 0 (given-of (orElse a (cond w (suc k) 0)) (orElse b (cond x (suc k) 0)) (orElse c (cond y (suc k) 0)) (orElse d (cond z (suc k) 0)))
+    ≡ givenRefusal 0 (given-of (orElse a (cond w (suc k) 0)) (orElse b (cond x (suc k) 0)) (orElse c (cond y (suc k) 0))
+    (orElse d (cond z (suc k) 0)))
 unfolding givenRefusal
 first-more k (suc a) b c d true x y z = simp some
 first-more k (suc a) b c d false true y z = simp some
@@ -135,7 +138,8 @@ module _ (m : Machine) (released finished : ℕ) where
       let j = job m (suc k) in
       let r = hasTask released (suc k) in
       let f = hasTask finished (suc k) in
-      first-more k (g .ten) (g .eleven) (g .twelve) (g .thirteen) (given10 j f) (given11 t j f) (given12 t j r) (given13 t j r f)
+      first-more k (g .ten) (g .eleven) (g .twelve) (g .thirteen) (given10 j f) (given11 t j f)
+      (given12 t j r) (given13 t j r f)
 
 pub neither : (a b : Bool) → a || b ≡ false → (a ≡ false) × (b ≡ false)
 neither true b e = absurd (true≢false e)
@@ -152,10 +156,12 @@ module _ (m : Machine) (released finished : ℕ) (g : GoodState m) where
   nine-is = lowest-ext _ _ mostTasks (λ i l. rw (task-or released finished (suc i)))
 
   -- no task above n is named
-  named : nine ≡ 0 → (i : ℕ) → m .table .n ≤ i → i < mostTasks → (hasTask released (suc i) ≡ false) × (hasTask finished (suc i) ≡ false)
+  named : nine ≡ 0 → (i : ℕ) → m .table .n ≤ i → i < mostTasks
+      → (hasTask released (suc i) ≡ false) × (hasTask finished (suc i) ≡ false)
   named e i h l =
       let no : hasTask (bitOr released finished) (suc i) ≡ false =
-      rw (lt-ltb (m .table .n) (suc i) (omega arith)) at (lowest-none (above (bitOr released finished) (m .table .n)) mostTasks e i l) in
+      rw (lt-ltb (m .table .n) (suc i) (omega arith)) at
+      (lowest-none (above (bitOr released finished) (m .table .n)) mostTasks e i l) in
       neither _ _ (sym (task-or released finished (suc i)) ∙ no)
 
   -- each rule over all 32 tasks, as `tickRules` has it
@@ -163,7 +169,8 @@ module _ (m : Machine) (released finished : ℕ) (g : GoodState m) where
   asRuled =
       record {
         ten = lowest mostTasks (λ k. hasTask finished k && not (runs m k));
-        eleven = lowest mostTasks (λ k. runs m k && eqb (job (passed m) k .ran) (C (τ (m .table) k)) && not (hasTask finished k));
+        eleven = lowest mostTasks
+            (λ k. runs m k && eqb (job (passed m) k .ran) (C (τ (m .table) k)) && not (hasTask finished k));
         twelve = lowest mostTasks (λ k. hasTask released k && ltb (job (passed m) k .age) (T (τ (m .table) k)));
         thirteen = lowest mostTasks (λ k. hasTask released k && not (idles (finish finished (passed m)) k));
       }

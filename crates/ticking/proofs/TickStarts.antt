@@ -1,4 +1,5 @@
--- Step 5 by one pass over the tasks: what is known after i turns, kept by each way through a turn, and what it comes to.
+-- Step 5 by one pass over the tasks: what is known after i turns, kept by each way through a turn, and what it comes
+-- to.
 use Prim.Native.Nat.{ℕ, suc, _+_, _-_, _<_, _≤_}
 use mathlib.Core.Path.{_≡_, sym, _∙_, ap, subst}
 use mathlib.Core.Bool.{Bool, true, false, cond, _&&_, true≢false}
@@ -29,7 +30,8 @@ use Rattle.machine.specs.Steps.{firstWaiting, fitsIn, fits, pick, begun, start,
 use Rattle.ticking.specs.Code.Passes.{tries, hasRoom, walkGo, walkBy}
 use Rattle.machine.proofs.StateParts.{not-both}
 use Rattle.machine.proofs.Queue.{pick-first, fewer-wait, more-run, less-idle, start-turn, some-wait}
-use Rattle.ticking.proofs.TickFive.{below-suc, walked, walked-none, walked-done, walked-left, walked-by, walked-go}
+use Rattle.ticking.proofs.TickFive.{below-suc, walked, walked-none, walked-done, walked-left, walked-by}
+use Rattle.ticking.proofs.TickFive.{walked-go}
 
 module _ (r : Machine) (w : ℕ → Walk) (late : ℕ → ℕ) where
   -- a task that waits before the step and is running when the pass has come to it
@@ -93,7 +95,8 @@ module _ (r : Machine) (w : ℕ → Walk) (late : ℕ → ℕ) where
           }
 
     -- it is not the task's turn, or step 5 has ended
-    pub at-by : w (suc i) ≡ walkBy (w i .goes) (job r (suc i)) (late i) (w i) → tries (job r (suc i)) (w i) ≡ false → At (suc i)
+    pub at-by : w (suc i) ≡ walkBy (w i .goes) (job r (suc i)) (late i) (w i)
+        → tries (job r (suc i)) (w i) ≡ false → At (suc i)
     at-by e out =
         at-same (w i .goes) e (a .same)
         (λ g. below-suc (λ j. waits (walked r w i) (suc j) ≡ false) i (a .calm g) (rw here (rw g at out)))
@@ -121,15 +124,18 @@ module _ (r : Machine) (w : ℕ → Walk) (late : ℕ → ℕ) where
       one-left : a .fuel ≡ suc (a .fuel - 1)
       one-left = omega (arith, a .enough, some-wait (walked r w i) i in-n queued)
 
-      turn : startAll r ≡ startPicked (startWaiting (a .fuel - 1)) (walked r w i) (cond (hasRoom (τ (r .table) (suc i)) (w i)) (suc i) 0)
+      turn : startAll r ≡ startPicked (startWaiting (a .fuel - 1)) (walked r w i)
+          (cond (hasRoom (τ (r .table) (suc i)) (w i)) (suc i) 0)
       turn =
           a .same
           ∙ (ap (λ (b : Bool). cond b (startWaiting (a .fuel) (walked r w i)) (walked r w i)) goes
           ∙ (ap (λ (f : ℕ). startWaiting f (walked r w i)) one-left
-          ∙ (start-turn (a .fuel - 1) (walked r w i) ∙ ap (startPicked (startWaiting (a .fuel - 1)) (walked r w i)) picks)))
+          ∙ (start-turn (a .fuel - 1) (walked r w i)
+          ∙ ap (startPicked (startWaiting (a .fuel - 1)) (walked r w i)) picks)))
 
       -- it does not fit, and step 5 ends
-      pub at-stop : w (suc i) ≡ walkBy false (job r (suc i)) (late i) (w i) → hasRoom (τ (r .table) (suc i)) (w i) ≡ false → At (suc i)
+      pub at-stop : w (suc i) ≡ walkBy false (job r (suc i)) (late i) (w i)
+          → hasRoom (τ (r .table) (suc i)) (w i) ≡ false → At (suc i)
       at-stop e unfit = at-same false e (turn ∙ rw unfit) (λ g. absurd (true≢false (sym g)))
 
       -- it starts, and takes A partitions
@@ -157,10 +163,16 @@ module _ (r : Machine) (w : ℕ → Walk) (late : ℕ → ℕ) where
         partitions-go =
             let idle = w i .idle in
             let count = A (τ (r .table) (suc i)) in
-            let had : w i .partitions .0 ≡ size mostPartitions idle = ap (λ (x : Partitions). x .0) (a .partitions) ∙ rw (a .idle) in
-            let enough : count ≤ size mostPartitions idle = omega (arith, leb-true count (w i .partitions .0) (both (leb 1 (w i .cores .0)) _ fit .1)) in
+            let had : w i .partitions .0 ≡ size mostPartitions idle =
+            ap (λ (x : Partitions). x .0) (a .partitions) ∙ rw (a .idle) in
+            let enough : count ≤ size mostPartitions idle =
+            omega (arith, leb-true count (w i .partitions .0) (both (leb 1 (w i .cores .0)) _ fit .1)) in
             let less : w i .partitions .0 - count ≡ size mostPartitions (without idle (choice idle count)) =
-            omega (arith, choice-size idle count enough, size-without mostPartitions idle (choice idle count) (choice-within idle count)) in
+            omega (
+              arith,
+              choice-size idle count enough,
+              size-without mostPartitions idle (choice idle count) (choice-within idle count),
+            ) in
             ap (λ (x : Walk). x .partitions) e
             ∙ ((λ k. record { 0 = less k }) ∙ ap partitionsIn (sym (ap (λ (x : Walk). x .idle) e) ∙ idle-go))
 
@@ -172,12 +184,16 @@ module _ (r : Machine) (w : ℕ → Walk) (late : ℕ → ℕ) where
               same = turn ∙ rw (fit, go, ap (λ (x : Walk). x .goes) e ∙ goes);
               calm = λ g.
                   below-suc (λ j. waits (walked r w (suc i)) (suc j) ≡ false) i
-                  (λ j k. rw (walked-done r w (suc i) j (omega arith) (omega arith), ← walked-done r w i j k (omega arith)) (a .calm goes j k))
+                  (λ j k. rw (
+                    walked-done r w (suc i) j (omega arith) (omega arith),
+                    ← walked-done r w i j k (omega arith),
+                  ) (a .calm goes j k))
                   (rw (walked-done r w (suc i) i (omega arith) l, new));
               cores = cores-go;
               idle = idle-go;
               partitions = partitions-go;
               begun =
-                  let now : starts (i + 1) ≡ true = rw add-one (rw (sym (ap (λ (j : Job). isWaiting (j .stage)) here) ∙ queued, new)) in
+                  let now : starts (i + 1) ≡ true =
+                  rw add-one (rw (sym (ap (λ (j : Job). isWaiting (j .stage)) here) ∙ queued, new)) in
                   ap (λ (x : Walk). x .started) e ∙ rw (a .begun, ← add-one i) (tasks-or starts i l now);
             }

@@ -23,10 +23,12 @@ use Rattle.ticking.proofs.TickFive.{walked}
 use Rattle.ticking.proofs.TickJudge.{Accepts}
 use Rattle.ticking.proofs.TickLook.{Looked}
 use Rattle.ticking.proofs.TickMoved.{Pass, five, started-is}
-use Rattle.ticking.proofs.TickReady.{ready, ready-is, ready-length, ready-past, ready-job, ready-running, ready-busy, ready-waits}
+use Rattle.ticking.proofs.TickReady.{ready, ready-is, ready-length, ready-past, ready-job, ready-running}
+use Rattle.ticking.proofs.TickReady.{ready-busy, ready-waits}
 use Rattle.ticking.proofs.TickWalk.{walkTo, walk-none, walk-turn, walk-late, isLateTask, lateAfter}
 
-module _ (m : Machine) (released finished : ℕ) (a : Accepts m released finished) (l : Look) (seen : Looked m released finished (m .table .n) l) where
+module _ (m : Machine) (released finished : ℕ) (a : Accepts m released finished) (l : Look)
+    (seen : Looked m released finished (m .table .n) l) where
   abbrev first : Walk
   first = walkStart (m .table .platform) l
 
@@ -44,7 +46,8 @@ module _ (m : Machine) (released finished : ℕ) (a : Accepts m released finishe
 
   cores-so : first .cores ≡ idleCores (ready m released finished)
   cores-so =
-      let stay : l .stays .0 ≡ running (ready m released finished) = seen .running ∙ ready-running m released finished a in
+      let stay : l .stays .0 ≡ running (ready m released finished) =
+      seen .running ∙ ready-running m released finished a in
       λ i. record { 0 = M (m .table) - stay i }
 
   is-pass : Pass (ready m released finished) turns (lateAfter m released finished first)
@@ -68,7 +71,8 @@ module _ (m : Machine) (released finished : ℕ) (a : Accepts m released finishe
   walked-is : walked (ready m released finished) turns (m .table .n) ≡ left
   walked-is = λ i. record { table = m .table; jobs = same i }
     where
-      same : upTo mostTasks (λ k. turns k .job) (job (ready m released finished)) (m .table .n) ≡ upTo mostTasks (λ k. turns k .job) (job m) (m .table .n)
+      same : upTo mostTasks (λ k. turns k .job) (job (ready m released finished)) (m .table .n)
+          ≡ upTo mostTasks (λ k. turns k .job) (job m) (m .table .n)
       same = tabulate-ext _ _ mostTasks (λ i h. at i h (decLt i (m .table .n)))
         where
           at : (i : ℕ) → i < mostTasks → Dec (i < m .table .n)
@@ -97,4 +101,5 @@ module _ (m : Machine) (released finished : ℕ) (a : Accepts m released finishe
       unfinished = record { table = m .table; jobs = finish finished (passed m) .jobs }
 
       unfinished-is : finish finished (passed m) ≡ unfinished
-      unfinished-is = λ i. record { table = finished-table m released finished i; jobs = finish finished (passed m) .jobs }
+      unfinished-is =
+          λ i. record { table = finished-table m released finished i; jobs = finish finished (passed m) .jobs }

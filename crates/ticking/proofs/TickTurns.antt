@@ -38,7 +38,8 @@ ran-on true x = refl
 ran-on false x = omega arith
 
 -- what is put to a count or a set where the job is not finished
-pub add-kept : (f : Bool) (x : Cores) (j : Job) → cond f x (coresAnd x j) .0 ≡ x .0 + cond f 0 (cond (isRunning (j .stage)) 1 0)
+pub add-kept : (f : Bool) (x : Cores) (j : Job)
+    → cond f x (coresAnd x j) .0 ≡ x .0 + cond f 0 (cond (isRunning (j .stage)) 1 0)
 add-kept true x j = omega arith
 add-kept false x j = refl
 
@@ -61,14 +62,17 @@ none-from x n =
       | yes l ↦ rw (lt-ltb x (2 ^ n) l, div-eq-of-lt l)
       | no h ↦
           rw (le-ltb x (2 ^ n) (omega arith))
-          (ne-eqb (x / 2 ^ n) 0 (λ z. h (omega (arith, div-lt-iff-lt-mul {k = 2 ^ n} {x = x} {y = 1} (pow-pos n) .0 (omega arith)))))
+          (ne-eqb (x / 2 ^ n) 0
+          (λ z. h (omega (arith, div-lt-iff-lt-mul {k = 2 ^ n} {x = x} {y = 1} (pow-pos n) .0 (omega arith)))))
     ]
 
 -- the marks of an entry
 pub marks-none : (τ : Task) (j : Job)
-    → eqb (bitOr (bitOr (bitOr (bitOr (bitOr (D τ) (T τ)) (C τ)) (A τ)) (bitOr (bitOr (j .stage .0) (j .age)) (j .ran))) (j .held)) 0
+    → eqb (bitOr (bitOr (bitOr (bitOr (bitOr (D τ) (T τ)) (C τ)) (A τ)) (bitOr (bitOr (j .stage .0) (j .age)) (j .ran)))
+    (j .held)) 0
     ≡ (isNoTask τ && isNoJob j)
-marks-none τ j = simp or-none (and-assoc (isNoTask τ) (isIdle (j .stage) && eqb (j .age) 0 && eqb (j .ran) 0) (eqb (j .held) 0))
+marks-none τ j =
+    simp or-none (and-assoc (isNoTask τ) (isIdle (j .stage) && eqb (j .age) 0 && eqb (j .ran) 0) (eqb (j .held) 0))
 
 -- entries put together are zero where each is
 merge : (a b c d : Bool) → (a && b) && (c && d) ≡ (a && c) && (b && d)
@@ -86,12 +90,19 @@ four a a′ b b′ c c′ d d′ =
 task-or : (a b : Task) → isNoTask (orTask a b) ≡ (isNoTask a && isNoTask b)
 task-or a b =
     rw (or-none (D a) (D b), or-none (T a) (T b), or-none (C a) (C b), or-none (A a) (A b))
-    (four (eqb (D a) 0) (eqb (D b) 0) (eqb (T a) 0) (eqb (T b) 0) (eqb (C a) 0) (eqb (C b) 0) (eqb (A a) 0) (eqb (A b) 0))
+    (four (eqb (D a) 0) (eqb (D b) 0) (eqb (T a) 0) (eqb (T b) 0) (eqb (C a) 0) (eqb (C b) 0)
+    (eqb (A a) 0) (eqb (A b) 0))
 
 job-or : (a b : Job) → isNoJob (orJob a b) ≡ (isNoJob a && isNoJob b)
 job-or a b =
-    rw (or-none (a .stage .0) (b .stage .0), or-none (a .age) (b .age), or-none (a .ran) (b .ran), or-none (a .held) (b .held))
-    (four (isIdle (a .stage)) (isIdle (b .stage)) (eqb (a .age) 0) (eqb (b .age) 0) (eqb (a .ran) 0) (eqb (b .ran) 0) (eqb (a .held) 0) (eqb (b .held) 0))
+    rw (
+      or-none (a .stage .0) (b .stage .0),
+      or-none (a .age) (b .age),
+      or-none (a .ran) (b .ran),
+      or-none (a .held) (b .held),
+    )
+    (four (isIdle (a .stage)) (isIdle (b .stage)) (eqb (a .age) 0) (eqb (b .age) 0) (eqb (a .ran) 0) (eqb (b .ran) 0)
+    (eqb (a .held) 0) (eqb (b .held) 0))
 
 pub past-more : (τ : Task) (j : Job) (p : Past) → pastNone (pastWith τ j p) ≡ (pastNone p && (isNoTask τ && isNoJob j))
 past-more τ j p =
@@ -110,7 +121,8 @@ module _ (p : ℕ) (τ : Task) (j : Job) where
   pub stage-waits : (s : Stage) → isWaiting s ≡ true → goodStage p τ j s ≡ hasNothing j
   stage-waits s e = ap (goodStage p τ j) (waiting-is s e)
 
-  pub stage-none : (s : Stage) → isRunning s ≡ false → isIdle s ≡ false → isWaiting s ≡ false → goodStage p τ j s ≡ false
+  pub stage-none : (s : Stage) → isRunning s ≡ false → isIdle s ≡ false → isWaiting s ≡ false
+      → goodStage p τ j s ≡ false
   stage-none s e f g = rw (e, f, g)
 
 -- a good job's numbers are small
@@ -123,7 +135,8 @@ pub admitted-ran : (p : ℕ) (τ : Task) (j : Job) (l : Look) → admits p τ j 
 admitted-ran p τ j l e =
     let all = both (l .good && eqb (rowRefusal p τ) 0 && goodJob p τ j) _ e in
     let good = both (l .good && eqb (rowRefusal p τ) 0) _ (all .0) in
-    ran-of τ j (good-row p τ (eqb-true _ _ (both (l .good) _ (good .0) .1))) (j .stage) (job-good p τ j (good .1) .stage)
+    ran-of τ j (good-row p τ (eqb-true _ _ (both (l .good) _ (good .0) .1))) (j .stage)
+    (job-good p τ j (good .1) .stage)
 
 -- an age that rises by 1, held at t, is d where it rose to d, if d is not above t
 pub rose : (a d t : ℕ) → d ≤ t → eqb (a + 1) d ≡ (eqb (a + 1) d && eqb (min (a + 1) t) d)
@@ -139,7 +152,8 @@ finished-age τ false j = refl
 
 module _ {m : Machine} (g : GoodState m) (i : ℕ) (l : i < m .table .n) where
   pub good-ran : job m (suc i) .ran ≤ longestPeriod
-  good-ran = ran-of (τ (m .table) (suc i)) (job m (suc i)) (g .table .row i l) (job m (suc i) .stage) (g .each i l .stage)
+  good-ran =
+      ran-of (τ (m .table) (suc i)) (job m (suc i)) (g .table .row i l) (job m (suc i) .stage) (g .each i l .stage)
 
   pub good-age : job m (suc i) .age ≤ longestPeriod
   good-age = let a = g .each i l .age in let r = g .table .row i l in omega arith

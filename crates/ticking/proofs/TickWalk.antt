@@ -21,7 +21,8 @@ use Rattle.ticking.specs.Code.Passes.{isLate, tries, hasRoom, walkGo, wa
 begin-late : (k : ℕ) (task : Task) (j : Job) (late : ℕ) (w : Walk) → walkBegin k task j late w .late ≡ late
 begin-late k task j late w = by (tries j w) (hasRoom task w)
   where
-    by : (a b : Bool) → cond a (cond b (walkGo k task j late w) (walkBy false j late w)) (walkBy (w .goes) j late w) .late ≡ late
+    by : (a b : Bool)
+        → cond a (cond b (walkGo k task j late w) (walkBy false j late w)) (walkBy (w .goes) j late w) .late ≡ late
     by true true = refl
     by true false = refl
     by false b = refl
@@ -36,7 +37,8 @@ module _ (m : Machine) (released finished : ℕ) (first : Walk) where
   unfolding walkTo
   walk-none = refl
 
-  pub walk-more : (i : ℕ) → walkWith (i + 1) (τ (m .table) (suc i)) (job m (suc i)) released finished (walkTo i) ≡ walkTo (i + 1)
+  pub walk-more : (i : ℕ)
+      → walkWith (i + 1) (τ (m .table) (suc i)) (job m (suc i)) released finished (walkTo i) ≡ walkTo (i + 1)
   unfolding walkTo
   walk-more i = rw add-one
 
@@ -51,7 +53,8 @@ module _ (m : Machine) (released finished : ℕ) (first : Walk) where
   abbrev pub readyAt : ℕ → Job
   readyAt i = readiedJob (τ (m .table) (suc i)) (hasTask released (suc i)) (hasTask finished (suc i)) (job m (suc i))
 
-  pub walk-turn : (i : ℕ) → walkTo (suc i) ≡ walkBegin (suc i) (τ (m .table) (suc i)) (readyAt i) (lateAfter i) (walkTo i)
+  pub walk-turn : (i : ℕ)
+      → walkTo (suc i) ≡ walkBegin (suc i) (τ (m .table) (suc i)) (readyAt i) (lateAfter i) (walkTo i)
   unfolding walkTo walkWith
   walk-turn i = refl
 
@@ -62,6 +65,7 @@ module _ (m : Machine) (released finished : ℕ) (first : Walk) where
       ∙ (begin-late (suc i) (τ (m .table) (suc i)) (readyAt i) (lateAfter i) (walkTo i)
       ∙ rw (walk-late none i (omega arith)) (by (isLateTask (suc i)) refl))
     where
-      by : (b : Bool) → isLateTask (suc i) ≡ b → bitOr (tasksWhere isLateTask i) (cond b (taskBit (suc i)) 0) ≡ tasksWhere isLateTask (suc i)
+      by : (b : Bool) → isLateTask (suc i) ≡ b
+          → bitOr (tasksWhere isLateTask i) (cond b (taskBit (suc i)) 0) ≡ tasksWhere isLateTask (suc i)
       by true e = rw (← add-one i) (tasks-or isLateTask i l (rw add-one e))
       by false e = or-zero-r (tasksWhere isLateTask i) ∙ (tasks-out isLateTask i (rw add-one e) ∙ rw add-one)

@@ -9,7 +9,8 @@ use machine::Job;
 use table::Partitions;
 use table::Task;
 
-// Task k idles and is not in the set: a tick that names only the tasks of the set adds 1 to its age, and changes nothing else.
+// Task k idles and is not in the set: a tick that names only the tasks of the set adds 1 to its age, and changes
+// nothing else.
 pub(crate) fn is_left(j: Job, x: u32, k: usize) -> bool
     ensures { λ r. ⌜ r ≡ isLeft j x k ⌝ }
 {

@@ -5,7 +5,8 @@ ghost use Prim.Native.Nat.{_<_, _≤_};
 ghost use lib.Dec.{eqb};
 ghost use Rattle.table.specs.Limits.{mostTasks, mostPartitions, longestPeriod};
 ghost use Rattle.machine.specs.Jobs.{isRunning};
-ghost use Rattle.ticking.specs.Code.Passes.{lookStart, lookBad, admits, lookMore, lookWith, pastStart, pastWith, pastNone, foundGood, foundRefusal};
+ghost use Rattle.ticking.specs.Code.Passes.{lookStart, lookBad, admits, lookMore, lookWith, pastStart, pastWith};
+ghost use Rattle.ticking.specs.Code.Passes.{pastNone, foundGood, foundRefusal};
 use crate::Look;
 use crate::Past;
 use crate::jobs::good_job;
@@ -64,7 +65,8 @@ impl Look {
 
     // A good task more.
     fn more(self, k: usize, task: Task, j: Job, released: bool, finished: bool) -> Look
-        requires { ⌜ (self .running .0 < mostTasks) × (self .stays .0 < mostTasks) × (j .ran ≤ longestPeriod) × (isRunning (j .stage) ≡ false → j .held ≡ 0) ⌝ }
+        requires { ⌜ (self .running .0 < mostTasks) × (self .stays .0 < mostTasks) × (j .ran ≤ longestPeriod)
+            × (isRunning (j .stage) ≡ false → j .held ≡ 0) ⌝ }
         ensures { λ r. ⌜ r ≡ lookMore k task j released finished self ⌝ }
     {
         let number = number_of(task, j, released, finished);
@@ -110,7 +112,8 @@ impl Look {
         released: u32,
         finished: u32,
     ) -> Look
-        requires { ⌜ (self .good ≡ true → p .0 ≤ mostPartitions) × (self .running .0 < mostTasks) × (self .stays .0 < mostTasks) ⌝ }
+        requires { ⌜ (self .good ≡ true → p .0 ≤ mostPartitions) × (self .running .0 < mostTasks)
+            × (self .stays .0 < mostTasks) ⌝ }
         ensures { λ r. ⌜ r ≡ lookWith k (p .0) task j released finished self ⌝ }
     {
         if !self.admits(p, task, j) {

@@ -20,8 +20,8 @@ use table::Refusal;
 use table::Table;
 use table::Task;
 
-// What a tick's first pass found so far: the state is good; the first of refusals 10 to 13; the cores that running jobs have and the
-// partitions that they hold, and those of the jobs that go on running after step 2.
+// What a tick's first pass found so far: the state is good; the first of refusals 10 to 13; the cores that running jobs
+// have and the partitions that they hold, and those of the jobs that go on running after step 2.
 struct Look {
     good: bool,
     refused: Refusal,
@@ -37,8 +37,8 @@ struct Past {
     job: Job,
 }
 
-// What a tick's second pass made so far: the job that it came to last; whether step 5 goes on, with how many idle cores, which idle
-// partitions and how many; and the sets to answer.
+// What a tick's second pass made so far: the job that it came to last; whether step 5 goes on, with how many idle
+// cores, which idle partitions and how many; and the sets to answer.
 struct Walk {
     job: Job,
     goes: bool,

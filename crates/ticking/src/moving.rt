@@ -7,7 +7,8 @@ ghost use Rattle.table.specs.Tasks.{D, T};
 ghost use Rattle.machine.specs.Jobs.{isRunning};
 ghost use Rattle.machine.specs.Steps.{older, awaiting, fitsIn};
 ghost use Rattle.machine.specs.Code.Readied.{finishedJob};
-ghost use Rattle.ticking.specs.Code.Passes.{coresLess, walkStart, isLate, tries, walkGo, walkBy, walkBegin, lateWith, walkWith};
+ghost use Rattle.ticking.specs.Code.Passes.{coresLess, walkStart, isLate, tries, walkGo, walkBy, walkBegin};
+ghost use Rattle.ticking.specs.Code.Passes.{lateWith, walkWith};
 use crate::Look;
 use crate::Walk;
 use crate::jobs::is_left;
@@ -77,7 +78,8 @@ fn released_job(j: Job, released: bool) -> Job
     j
 }
 
-// Step 3, of a job that steps 1 and 2 left as it is given, and whose age was `before`: an age that rose to D is D, for D is not above T.
+// Step 3, of a job that steps 1 and 2 left as it is given, and whose age was `before`: an age that rose to D is D, for
+// D is not above T.
 fn is_late(task: Task, before: u32, j: Job) -> bool
     requires { ⌜ (before ≤ longestPeriod) × (D task ≤ T task) × (j .age ≡ min (before + 1) (T task)) ⌝ }
     ensures { λ r. ⌜ r ≡ isLate task before j ⌝ }

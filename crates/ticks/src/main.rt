@@ -1,5 +1,5 @@
-// Runs the ticks of standard input on the fresh machine of platform.csv and tasks.csv, of the working folder, and writes a row for each, or
-// the refusal.
+// Runs the ticks of standard input on the fresh machine of platform.csv and tasks.csv, of the working folder, and
+// writes a row for each, or the refusal.
 ghost use mathlib.Core.Path.{_≡_};
 ghost use Rattle.table.specs.Refused.{noRefusal};
 ghost use Rattle.files.specs.Got.{Whole};

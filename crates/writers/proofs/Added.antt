@@ -17,13 +17,15 @@ module _ (buffer : List ℕ) (at : ℕ) (text : List ℕ) where
       let none = lt-leb (at + length text) (length buffer) l in
       record { behind = rw none; holds = rw none }
 
-  pub added-put : (next : ℕ) (after : List ℕ) → at + length text ≤ length buffer → Put buffer at text next after → Added buffer at text next after
+  pub added-put : (next : ℕ) (after : List ℕ) → at + length text ≤ length buffer → Put buffer at text next after
+      → Added buffer at text next after
   added-put next after l p =
       let all = le-leb (at + length text) (length buffer) l in
       record { behind = p .behind ∙ rw all; holds = p .holds ∙ rw all }
 
   -- where it has room, it is put
-  pub put-added : (next : ℕ) (after : List ℕ) → at + length text ≤ length buffer → Added buffer at text next after → Put buffer at text next after
+  pub put-added : (next : ℕ) (after : List ℕ) → at + length text ≤ length buffer → Added buffer at text next after
+      → Put buffer at text next after
   put-added next after l a =
       let all = le-leb (at + length text) (length buffer) l in
       record { behind = a .behind ∙ rw all; holds = a .holds ∙ rw all }

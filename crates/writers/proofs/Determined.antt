@@ -14,8 +14,10 @@ wrote-determined text buffer r s a b p q = determined-both _ _ r s a b (p .answe
 
 pub wrote-both-determined : (x y first second : List ℕ) (r s : TextsWritten) (a b c d : List ℕ)
     → WroteBoth x y first second r a c → WroteBoth x y first second s b d → (r ≡ s) × ((a ≡ b) × (c ≡ d))
-wrote-both-determined x y first second r s a b c d p q =
-    (determined _ r s (p .answers) (q .answers), determined-both _ _ a b c d (p .holds₁, p .holds₂) (q .holds₁, q .holds₂))
+wrote-both-determined x y first second r s a b c d p q = (
+  determined _ r s (p .answers) (q .answers),
+  determined-both _ _ a b c d (p .holds₁, p .holds₂) (q .holds₁, q .holds₂),
+)
 
 pub added-determined : (buffer : List ℕ) (at : ℕ) (text : List ℕ) (r s : ℕ) (a b : List ℕ)
     → Added buffer at text r a → Added buffer at text s b → (r ≡ s) × (a ≡ b)

@@ -18,7 +18,8 @@ use Rattle.writers.specs.Outputs.{marginLines, marginsText}
 abbrev pub marginsFrom : List ℤ → ℕ → ℕ → List ℕ
 marginsFrom margins n i = marginLines (suc i) (drop i (take n margins))
 
-pub margins-split : (margins : List ℤ) (n : ℕ) → marginsText n margins ≡ bytes "task,margin,pass\r\n" ++ marginsFrom margins n 0
+pub margins-split : (margins : List ℤ) (n : ℕ)
+    → marginsText n margins ≡ bytes "task,margin,pass\r\n" ++ marginsFrom margins n 0
 unfolding marginsText
 margins-split margins n = refl
 
@@ -30,11 +31,13 @@ margins-more margins n i less fits = rw (front (pos 0) n margins i less fits) (r
 pub margins-end : (margins : List ℤ) (n i : ℕ) → n ≤ i → marginsFrom margins n i ≡ []
 unfolding marginLines
 margins-end margins n i h =
-    let none : drop i (take n margins) ≡ [] = drop-of-length-le (take n margins) {i = i} (simp length-take (omega arith)) in
+    let none : drop i (take n margins) ≡ [] =
+    drop-of-length-le (take n margins) {i = i} (simp length-take (omega arith)) in
     rw none
 
 -- no more rows than there are margins
-pub margins-held : (margins : List ℤ) (n rows : ℕ) → rows ≡ min n (length margins) → marginsText n margins ≡ marginsText rows margins
+pub margins-held : (margins : List ℤ) (n rows : ℕ) → rows ≡ min n (length margins)
+    → marginsText n margins ≡ marginsText rows margins
 unfolding marginsText
 margins-held margins n rows e = go (decLe n (length margins))
   where

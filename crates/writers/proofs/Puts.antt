@@ -13,12 +13,15 @@ use Rattle.forms.specs.Digits.{digit, digits}
 use Rattle.forms.proofs.Digits.{one-digit, split-digit, width-one, width-more, width-some, width-most}
 
 -- one text behind another
-pub sets-append : (buffer : List ℕ) (at : ℕ) (a b : List ℕ) → sets (sets buffer at a) (at + length a) b ≡ sets buffer at (a ++ b)
+pub sets-append : (buffer : List ℕ) (at : ℕ) (a b : List ℕ)
+    → sets (sets buffer at a) (at + length a) b ≡ sets buffer at (a ++ b)
 sets-append buffer at [] b = let e : at + 0 ≡ at = omega arith in rw e
-sets-append buffer at (x ∷ a) b = let e : at + suc (length a) ≡ suc at + length a = omega arith in rw e (sets-append (set buffer at x) (suc at) a b)
+sets-append buffer at (x ∷ a) b = let e : at + suc (length a) ≡ suc at + length a = omega arith in
+    rw e (sets-append (set buffer at x) (suc at) a b)
 
 -- the whole text, at the front
-pub sets-front : (buffer text : List ℕ) → length text ≤ length buffer → sets buffer 0 text ≡ text ++ drop (length text) buffer
+pub sets-front : (buffer text : List ℕ) → length text ≤ length buffer
+    → sets buffer 0 text ≡ text ++ drop (length text) buffer
 sets-front buffer text h = sets-eq text buffer 0 (omega arith) ∙ rw (zero-add (length text))
 
 -- a byte of a word
@@ -26,7 +29,8 @@ pub word-more : (buffer : List ℕ) (next : ℕ) (word : List ℕ) (i : ℕ) →
     → sets (set buffer next (getD word i 0)) (next + 1) (drop (i + 1) word) ≡ sets buffer next (drop i word)
 word-more buffer next word i h = rw (add-one, add-one) (rw (drop-cons word i 0 h))
 
-pub word-end : (buffer : List ℕ) (next : ℕ) (word : List ℕ) (i : ℕ) → length word ≤ i → sets buffer next (drop i word) ≡ buffer
+pub word-end : (buffer : List ℕ) (next : ℕ) (word : List ℕ) (i : ℕ) → length word ≤ i
+    → sets buffer next (drop i word) ≡ buffer
 word-end buffer next word i h = rw (drop-of-length-le word h)
 
 -- a u64 has at most 20 digits
@@ -34,7 +38,8 @@ pub width-room : (n : ℕ) → n < 2 ^ 64 → length (digits n) ≤ 20
 width-room n h = width-most 19 n (lt-of-lt-of-le h (lit≤ tt))
 
 -- a byte stored in front of those that are there
-store-front : (w i : ℕ) (l : List ℕ) (v : ℕ) → i < w → w ≤ length l → drop i (take w (set l i v)) ≡ v ∷ drop (suc i) (take w l)
+store-front : (w i : ℕ) (l : List ℕ) (v : ℕ) → i < w → w ≤ length l
+    → drop i (take w (set l i v)) ≡ v ∷ drop (suc i) (take w l)
 store-front zero i l v h g = absurd (no h)
   where
     no : i < 0 → ⊥
@@ -55,7 +60,8 @@ pub record Filled (n w : ℕ) (room : List ℕ) (rest i : ℕ) : Type 0 where
   pub left : i ≡ length (digits rest)
   pub spelt : digits rest ++ drop i (take w room) ≡ digits n
 
-pub filled-start : (n w : ℕ) (room : List ℕ) → n < 2 ^ 64 → w ≡ length (digits n) → length room ≡ 20 → Filled n w room n w
+pub filled-start : (n w : ℕ) (room : List ℕ) → n < 2 ^ 64 → w ≡ length (digits n)
+    → length room ≡ 20 → Filled n w room n w
 filled-start n w room fits e size =
     let none : drop w (take w room) ≡ [] = drop-of-length-le (take w room) {i = w} (simp length-take (omega arith)) in
     record {
@@ -95,7 +101,8 @@ module _ (n w : ℕ) (room : List ℕ) (rest i : ℕ) (h : Filled n w room rest 
         size = length-set room (i - 1) (48 + rest % 10) ∙ size;
         left = omega arith;
         spelt =
-            ap (λ (l : List ℕ). digits (rest / 10) ++ l) (store-front w (i - 1) room (48 + rest % 10) (omega arith) (omega arith))
+            ap (λ (l : List ℕ). digits (rest / 10) ++ l)
+            (store-front w (i - 1) room (48 + rest % 10) (omega arith) (omega arith))
             ∙ rw back (sym (append-snoc (digits (rest / 10)) (48 + rest % 10) (drop i (take w room))))
             ∙ ap (λ (l : List ℕ). l ++ drop i (take w room)) (sym (split-digit rest ten))
             ∙ h .spelt;
@@ -108,7 +115,8 @@ module _ (n w : ℕ) (room : List ℕ) (rest i : ℕ) (h : Filled n w room rest 
       go (yes s) = s
       go (no g) = absurd (no (h .left) (width-more rest (omega arith)) (width-some (rest / 10)))
         where
-          no : i ≡ length (digits rest) → length (digits rest) ≡ suc (length (digits (rest / 10))) → 0 < length (digits (rest / 10)) → ⊥
+          no : i ≡ length (digits rest) → length (digits rest) ≡ suc (length (digits (rest / 10)))
+              → 0 < length (digits (rest / 10)) → ⊥
           no e f g = omega arith
 
   pub filled-end : i ≤ 1 → take w (set room 0 (48 + rest)) ≡ digits n

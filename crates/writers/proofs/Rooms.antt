@@ -11,11 +11,13 @@ use lib.ListN.{length, length-append}
 use Rattle.writers.specs.declared.Room.{Room}
 use Rattle.writers.specs.Written.{roomFor}
 
-pub room-enough : (text : List ℕ) (room : ℕ) → length text ≤ room → roomFor text room ≡ record { enough = true; left = room - length text }
+pub room-enough : (text : List ℕ) (room : ℕ) → length text ≤ room
+    → roomFor text room ≡ record { enough = true; left = room - length text }
 unfolding roomFor
 room-enough text room h = rw (le-leb (length text) room h)
 
-pub room-short : (text : List ℕ) (room : ℕ) → room < length text → roomFor text room ≡ record { enough = false; left = 0 }
+pub room-short : (text : List ℕ) (room : ℕ) → room < length text
+    → roomFor text room ≡ record { enough = false; left = 0 }
 unfolding roomFor
 room-short text room h = rw (lt-leb (length text) room h)
 
@@ -23,7 +25,8 @@ pub room-none : (room : ℕ) → roomFor [] room ≡ record { enough = true; lef
 room-none room = room-enough [] room (omega arith) ∙ let e : room - 0 ≡ room = omega arith in rw e
 
 -- from the answer back to the lengths
-pub enough-is : (text : List ℕ) (room : ℕ) → roomFor text room .enough ≡ true → (length text ≤ room) × (roomFor text room .left ≡ room - length text)
+pub enough-is : (text : List ℕ) (room : ℕ) → roomFor text room .enough ≡ true
+    → (length text ≤ room) × (roomFor text room .left ≡ room - length text)
 enough-is text room h = go (decLe (length text) room)
   where
     go : Dec (length text ≤ room) → (length text ≤ room) × (roomFor text room .left ≡ room - length text)

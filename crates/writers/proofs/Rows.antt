@@ -31,15 +31,18 @@ module _ (numbers : List ℕ) (j : ℕ) (less : j < length numbers) where
   line-more =
       let size : length (drop (suc j) numbers) ≡ length numbers - j - 1 = length-drop (suc j) numbers ∙ omega arith in
       rw add-one
-      (rw (drop-cons numbers j 0 less) (rw size (sym (append-assoc (digits (getD numbers j 0)) (ending (length numbers - j - 1)) (line (drop (suc j) numbers))))))
+      (rw (drop-cons numbers j 0 less) (rw size
+      (sym (append-assoc (digits (getD numbers j 0)) (ending (length numbers - j - 1)) (line (drop (suc j) numbers))))))
 
   pub line-on : (room : ℕ) (x : Room) → x ≡ roomFor (piece numbers j) room → x .enough ≡ true
       → roomFor (line (drop j numbers)) room ≡ roomFor (line (drop (j + 1) numbers)) (x .left)
-  line-on room x e h = ap (λ (l : List ℕ). roomFor l room) line-more ∙ room-more (piece numbers j) (line (drop (j + 1) numbers)) room x e h
+  line-on room x e h = ap (λ (l : List ℕ). roomFor l room) line-more
+      ∙ room-more (piece numbers j) (line (drop (j + 1) numbers)) room x e h
 
   pub line-short : (room : ℕ) (x : Room) → x ≡ roomFor (piece numbers j) room → x .enough ≡ false
       → roomFor (line (drop j numbers)) room ≡ record { enough = false; left = 0 }
-  line-short room x e h = ap (λ (l : List ℕ). roomFor l room) line-more ∙ room-stop (piece numbers j) (line (drop (j + 1) numbers)) room x e h
+  line-short room x e h = ap (λ (l : List ℕ). roomFor l room) line-more
+      ∙ room-stop (piece numbers j) (line (drop (j + 1) numbers)) room x e h
 
 pub line-none : (numbers : List ℕ) (j : ℕ) → length numbers ≤ j → line (drop j numbers) ≡ []
 unfolding line

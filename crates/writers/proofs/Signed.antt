@@ -42,7 +42,8 @@ turn z s e = go z s (sym (below-zero z) ∙ ap (λ (y : ℤ). ltZ y (pos 0)) (sy
         no : false ≡ true → ⊥
         no e = let z : _≡_ {A = ℕ} 0 1 = cc in omega arith
     go (negsuc n) s e =
-        let back : negsuc 0 -ℤ toZ w64 (ofZ w64 (negsuc n)) ≡ pos n = ap (λ (y : ℤ). negsuc 0 -ℤ y) (toZ-ofZ s) ∙ turned n in
+        let back : negsuc 0 -ℤ toZ w64 (ofZ w64 (negsuc n)) ≡ pos n =
+        ap (λ (y : ℤ). negsuc 0 -ℤ y) (toZ-ofZ s) ∙ turned n in
         let fits : SFits w64 (pos n) = record { sfits = s .sfits } in
         record {
           n = n;

@@ -38,5 +38,6 @@ module _ (t : Table) (size : length (t .rows) ≡ mostTasks) (n : ℕ) (e : n �
   pub rows-end : (i : ℕ) → n ≤ i → rowsFrom t n i ≡ []
   unfolding lines
   rows-end i h =
-      let none : drop i (take n (t .rows)) ≡ [] = drop-of-length-le (take n (t .rows)) {i = i} (simp length-take (omega arith)) in
+      let none : drop i (take n (t .rows)) ≡ [] =
+      drop-of-length-le (take n (t .rows)) {i = i} (simp length-take (omega arith)) in
       rw none

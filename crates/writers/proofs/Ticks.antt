@@ -14,7 +14,8 @@ use Rattle.writers.specs.Outputs.{tickRows, reportsText}
 abbrev pub ticksFrom : List ℕ → List ℕ → ℕ → List ℕ
 ticksFrom released finished i = lines (tickRows (drop i released) (drop i finished))
 
-pub ticks-split : (released finished : List ℕ) → reportsText released finished ≡ ticksForm .header ++ crlf ++ ticksFrom released finished 0
+pub ticks-split : (released finished : List ℕ)
+    → reportsText released finished ≡ ticksForm .header ++ crlf ++ ticksFrom released finished 0
 unfolding text
 ticks-split released finished = refl
 
@@ -24,7 +25,8 @@ pub ticks-more : (released finished : List ℕ) (i : ℕ) → i < length release
 unfolding lines tickRows
 ticks-more released finished i l m numbers e = rw add-one (rw (drop-cons released i 0 l, drop-cons finished i 0 m, e))
 
-pub ticks-end : (released finished : List ℕ) (i : ℕ) → min (length released) (length finished) ≤ i → ticksFrom released finished i ≡ []
+pub ticks-end : (released finished : List ℕ) (i : ℕ) → min (length released) (length finished) ≤ i
+    → ticksFrom released finished i ≡ []
 unfolding lines tickRows
 ticks-end released finished i h = go (decLe (length released) i)
   where

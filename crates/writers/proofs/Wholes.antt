@@ -22,11 +22,16 @@ use Rattle.writers.specs.Code.Put.{Put}
 use Rattle.writers.proofs.Puts.{sets-front}
 use Rattle.writers.proofs.Rooms.{enough-is, short-is, room-more, room-stop}
 
-pub wrote-short : (text buffer : List ℕ) (w : Written) → w ≡ record { refused = tooShort; length = 0 } → length buffer < length text → Wrote text buffer w buffer
+pub wrote-short : (text buffer : List ℕ) (w : Written) → w ≡ record { refused = tooShort; length = 0 }
+    → length buffer < length text → Wrote text buffer w buffer
 unfolding written leaves
-wrote-short text buffer w e h = record { answers = e ∙ rw (lt-leb (length text) (length buffer) h); holds = rw (lt-leb (length text) (length buffer) h) }
+wrote-short text buffer w e h = record {
+  answers = e ∙ rw (lt-leb (length text) (length buffer) h);
+  holds = rw (lt-leb (length text) (length buffer) h);
+}
 
-pub wrote-put : (text buffer after : List ℕ) (next : ℕ) (w : Written) → w ≡ record { refused = noRefusal; length = next } → length text ≤ length buffer
+pub wrote-put : (text buffer after : List ℕ) (next : ℕ) (w : Written)
+    → w ≡ record { refused = noRefusal; length = next } → length text ≤ length buffer
     → Put buffer 0 text next after → Wrote text buffer w after
 unfolding written leaves
 wrote-put text buffer after next w e h p =
@@ -69,7 +74,8 @@ unfolding listing lines
 one-listing header row = rw append-nil (sym (append-assoc (bytes header) crlf (line row)))
 
 -- the answer and the buffer where the text fits
-module _ (text buffer after : List ℕ) (w : Written) (h : Wrote text buffer w after) (fits : length text ≤ length buffer) where
+module _ (text buffer after : List ℕ) (w : Written) (h : Wrote text buffer w after)
+    (fits : length text ≤ length buffer) where
   pub wrote-length : w .length ≡ length text
   unfolding written
   wrote-length = ap (λ (x : Written). x .length) (h .answers) ∙ rw (le-leb (length text) (length buffer) fits)
@@ -92,14 +98,16 @@ module _ (a b first second : List ℕ) where
       and-false true = refl
       and-false false = refl
 
-  pub both-short : (w : TextsWritten) → w ≡ record { refused = tooShort; platform = 0; tasks = 0 } → length first < length a ⊎ length second < length b
-      → WroteBoth a b first second w first second
+  pub both-short : (w : TextsWritten) → w ≡ record { refused = tooShort; platform = 0; tasks = 0 }
+      → length first < length a ⊎ length second < length b → WroteBoth a b first second w first second
   both-short w e l =
       let none = not-both-fit l in
       record { answers = e ∙ rw none; holds₁ = rw none; holds₂ = rw none }
 
-  pub both-wrote : (after₁ after₂ : List ℕ) (w₁ w₂ : Written) → length a ≤ length first → length b ≤ length second → Wrote a first w₁ after₁ → Wrote b second w₂ after₂
-      → WroteBoth a b first second (record { refused = noRefusal; platform = w₁ .length; tasks = w₂ .length }) after₁ after₂
+  pub both-wrote : (after₁ after₂ : List ℕ) (w₁ w₂ : Written) → length a ≤ length first → length b ≤ length second
+      → Wrote a first w₁ after₁ → Wrote b second w₂ after₂
+      → WroteBoth a b first second
+      (record { refused = noRefusal; platform = w₁ .length; tasks = w₂ .length }) after₁ after₂
   both-wrote after₁ after₂ w₁ w₂ l m g h =
       let yes₁ = le-leb (length a) (length first) l in
       let yes₂ = le-leb (length b) (length second) m in
@@ -120,5 +128,6 @@ wrote-inside text buffer after w h = go (decLe (length text) (length buffer))
         let all = ap length (wrote-holds text buffer after w h l) in
         omega (arith, length-append text (drop (length text) buffer))
     go (no g) =
-        let none : w .length ≡ 0 = ap (λ (x : Written). x .length) (h .answers) ∙ rw (lt-leb (length text) (length buffer) (omega arith)) in
+        let none : w .length ≡ 0 =
+        ap (λ (x : Written). x .length) (h .answers) ∙ rw (lt-leb (length text) (length buffer) (omega arith)) in
         omega arith

@@ -1,4 +1,5 @@
--- The texts that are written: of a platform, of a table's rows, of ticks, of margins, and of a refusal. A table is written as it is, good or not.
+-- The texts that are written: of a platform, of a table's rows, of ticks, of margins, and of a refusal. A table is
+-- written as it is, good or not.
 use Prim.Native.Nat.{ℕ, suc}
 use Prim.Native.String.{String}
 use mathlib.Core.List.{List, [], _∷_, _++_, map}

@@ -1,4 +1,5 @@
--- A margin's bytes: one `-` before the digits of a negative one; and a listing's row of a task, its margin and whether it passes.
+-- A margin's bytes: one `-` before the digits of a negative one; and a listing's row of a task, its margin and whether
+-- it passes.
 use Prim.Native.Nat.{ℕ, zero, suc}
 use mathlib.Core.Bool.{Bool, true, false}
 use mathlib.Core.List.{List, [], _∷_, _++_}
@@ -19,4 +20,5 @@ sign false = []
 
 -- task, margin, pass: each number with what ends it
 unfoldable pub marginRow : ℕ → Margin → List ℕ
-marginRow k m = digits k ++ ending 2 ++ (sign (m .below) ++ (digits (m .size) ++ ending 1 ++ (digits (m .pass) ++ ending 0)))
+marginRow k m =
+    digits k ++ ending 2 ++ (sign (m .below) ++ (digits (m .size) ++ ending 1 ++ (digits (m .pass) ++ ending 0)))

@@ -1,5 +1,5 @@
--- What a writer gives and leaves: the text at the front of the buffer with the bytes past it as they were, or refusal 16 where the text
--- is longer than the buffer, and then nothing is changed.
+-- What a writer gives and leaves: the text at the front of the buffer with the bytes past it as they were, or refusal
+-- 16 where the text is longer than the buffer, and then nothing is changed.
 use Prim.Native.Nat.{ℕ, _+_, _-_}
 use mathlib.Core.Path.{_≡_}
 use mathlib.Core.Bool.{Bool, true, false, cond, _&&_}

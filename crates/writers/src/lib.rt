@@ -1,11 +1,13 @@
-// Writers of document 01's texts into buffers that the caller lends. A text is measured first; where it does not fit, nothing is changed.
+// Writers of document 01's texts into buffers that the caller lends. A text is measured first; where it does not fit,
+// nothing is changed.
 ghost use Prim.Native.Nat.{_+_, _≤_, min};
 ghost use mathlib.Core.Path.{_≡_};
 ghost use mathlib.Core.List.{[], _∷_, _++_};
 ghost use lib.ListN.{length, take};
 ghost use Rattle.forms.specs.Digits.{digits};
 ghost use Rattle.forms.specs.Forms.{ending, line};
-ghost use Rattle.writers.specs.Outputs.{platformRow, platformText, taskRow, tasksText, reportsText, refusedRow, refusedText, marginsText};
+ghost use Rattle.writers.specs.Outputs.{platformRow, platformText, taskRow, tasksText, reportsText, refusedRow};
+ghost use Rattle.writers.specs.Outputs.{refusedText, marginsText};
 ghost use Rattle.table.specs.Limits.{mostTasks};
 ghost use Rattle.writers.specs.Signed.{marginOf, sign, marginRow};
 ghost use Rattle.writers.specs.Written.{roomFor, tooShort, Wrote, WroteBoth, Added};
@@ -201,7 +203,8 @@ fn one_room(header: &[u8], numbers: &[u64], room: usize) -> Room
 
 // A header line and one row.
 fn write_one(buf: &mut [u8], header: &[u8], numbers: &[u64]) -> Written
-    ensures { λ r. ⌜ Wrote (now (header .entry) ++ line (now (numbers .entry))) (now (buf .entry)) r (now (buf .exit)) ⌝ }
+    ensures { λ r.
+        ⌜ Wrote (now (header .entry) ++ line (now (numbers .entry))) (now (buf .entry)) r (now (buf .exit)) ⌝ }
 {
     let m = one_room(header, numbers, buf.len());
     if !m.enough {
@@ -476,7 +479,8 @@ fn ticks_room(released: &[u32], finished: &[u32], room: usize) -> Room
 
 fn put_ticks(buf: &mut [u8], released: &[u32], finished: &[u32]) -> usize
     requires { ⌜ length (reportsText (now released) (now finished)) ≤ length (now buf) ⌝ }
-    ensures { λ r. ⌜ Put (now (buf .entry)) 0 (reportsText (now (released .entry)) (now (finished .entry))) r (now (buf .exit)) ⌝ }
+    ensures { λ r.
+        ⌜ Put (now (buf .entry)) 0 (reportsText (now (released .entry)) (now (finished .entry))) r (now (buf .exit)) ⌝ }
 {
     let n = fewer(released.len(), finished.len());
     let mut next = put_word(buf, 0, b"released,finished\r\n");
@@ -491,7 +495,8 @@ fn put_ticks(buf: &mut [u8], released: &[u32], finished: &[u32]) -> usize
 
 // The ticks text of the sets released and finished, tick by tick, as many as both slices have.
 pub fn write_ticks(released: &[u32], finished: &[u32], buf: &mut [u8]) -> Written
-    ensures { λ r. ⌜ Wrote (reportsText (now (released .entry)) (now (finished .entry))) (now (buf .entry)) r (now (buf .exit)) ⌝ }
+    ensures { λ r.
+        ⌜ Wrote (reportsText (now (released .entry)) (now (finished .entry))) (now (buf .entry)) r (now (buf .exit)) ⌝ }
 {
     let m = ticks_room(released, finished, buf.len());
     if !m.enough {
@@ -522,7 +527,8 @@ impl TextsWritten {
 
 // Both texts of a table, or neither.
 pub fn write_texts(t: Table, platform: &mut [u8], tasks: &mut [u8]) -> TextsWritten
-    ensures { λ r. ⌜ WroteBoth (platformText (t .platform)) (tasksText t) (now (platform .entry)) (now (tasks .entry)) r (now (platform .exit)) (now (tasks .exit)) ⌝ }
+    ensures { λ r. ⌜ WroteBoth (platformText (t .platform)) (tasksText t) (now (platform .entry)) (now (tasks .entry)) r
+        (now (platform .exit)) (now (tasks .exit)) ⌝ }
 {
     let p = t.platform;
     let numbers = platform_numbers(p);

@@ -1,11 +1,12 @@
-//! Reports to a machine: mostly acceptable ones, so that jobs really run, wait, finish and become late, and faulty ones.
+//! Reports to a machine: mostly acceptable ones, so that jobs really run, wait, finish and become late, and faulty
+//! ones.
 
 use crate::machine::{members, set_of, Job, Machine, Stage};
 use crate::rng::Rng;
 use crate::table::Row;
 
-/// How a unit behaves: of a hundred, how often a job ends before its longest run, a task is released as soon as it may be, and a
-/// report is made faulty.
+/// How a unit behaves: of a hundred, how often a job ends before its longest run, a task is released as soon as it may
+/// be, and a report is made faulty.
 #[derive(Clone, Copy, Debug)]
 pub struct Habit {
     pub early: u32,
@@ -14,7 +15,11 @@ pub struct Habit {
 }
 
 pub fn habit(rng: &mut Rng) -> Habit {
-    Habit { early: rng.pick(&[0, 0, 5, 30, 80]), prompt: rng.pick(&[5, 30, 80, 100, 100]), faulty: rng.pick(&[0, 5, 20, 50]) }
+    Habit {
+        early: rng.pick(&[0, 0, 5, 30, 80]),
+        prompt: rng.pick(&[5, 30, 80, 100, 100]),
+        faulty: rng.pick(&[0, 5, 20, 50]),
+    }
 }
 
 fn percent(rng: &mut Rng, often: u32) -> bool {

@@ -105,8 +105,8 @@ pub fn tiny(rng: &mut Rng) -> Table {
     table
 }
 
-/// The least slack with which task k (from 1) would pass, other numbers being as they are. The load does not fall as the slack
-/// rises, so the least one is reached from below.
+/// The least slack with which task k (from 1) would pass, other numbers being as they are. The load does not fall as
+/// the slack rises, so the least one is reached from below.
 fn least_slack(table: &Table, k: usize) -> Option<u32> {
     let mut t = table.clone();
     let row = &table.rows[k - 1];
@@ -137,8 +137,8 @@ pub enum Edge {
     Share(u32),
 }
 
-/// The table with its deadlines put at the edge of admission; none where some task cannot pass within its period. A margin hangs on
-/// the deadline of its own task alone, so each can be put at its edge.
+/// The table with its deadlines put at the edge of admission; none where some task cannot pass within its period. A
+/// margin hangs on the deadline of its own task alone, so each can be put at its edge.
 pub fn at_edge(rng: &mut Rng, mut table: Table, edge: Edge) -> Option<Table> {
     let least: Vec<u32> = (1..=table.rows.len()).map(|k| least_slack(&table, k)).collect::<Option<_>>()?;
     let short = rng.index(table.rows.len());
@@ -205,7 +205,8 @@ pub fn short(rng: &mut Rng) -> Table {
     lightly(rng, m, p, n, shortest, (3, 12))
 }
 
-/// Periods from `shortest` on, and runs that together take about one part in `parts` of what the platform can carry in the shortest.
+/// Periods from `shortest` on, and runs that together take about one part in `parts` of what the platform can carry in
+/// the shortest.
 fn lightly(rng: &mut Rng, m: u32, p: u32, n: usize, shortest: u32, parts: (u32, u32)) -> Table {
     let widest = rng.scaled(0, p);
     let most = rng.range(1, 8);
@@ -295,7 +296,8 @@ pub fn wild(rng: &mut Rng) -> Table {
     table
 }
 
-/// Where the sums are largest: most tasks, cores and partitions, the longest slack, the shortest periods or the longest runs.
+/// Where the sums are largest: most tasks, cores and partitions, the longest slack, the shortest periods or the longest
+/// runs.
 pub fn largest(rng: &mut Rng) -> Table {
     let n = rng.pick(&[1, 2, 31, 32, 32, 32]);
     let (m, p) = (rng.pick(&[16, 16, 15, 1]), rng.pick(&[64, 64, 63, 1]));

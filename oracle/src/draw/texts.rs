@@ -100,8 +100,8 @@ pub fn three(rng: &mut Rng) -> Three {
     Three { platform, tasks, ticks }
 }
 
-/// Platform and tasks text as a caller in C has them, who has no bytes of a file that is missing. In one table of four one task alone
-/// does not pass, so that it is every task's turn.
+/// Platform and tasks text as a caller in C has them, who has no bytes of a file that is missing. In one table of four
+/// one task alone does not pass, so that it is every task's turn.
 pub fn pair(rng: &mut Rng) -> [Vec<u8>; 2] {
     let table = if rng.once_in(4) { tables::one_short(rng) } else { table(rng) };
     let faults = faults(rng);
@@ -213,8 +213,9 @@ const NUMBERS: [&str; 26] = [
 
 /// Puts another number in the place of one.
 fn spoil_number(rng: &mut Rng, text: Vec<u8>) -> Vec<u8> {
-    let starts: Vec<usize> =
-        (1..text.len()).filter(|&i| text[i].is_ascii_digit() && (text[i - 1] == b',' || text[i - 1] == b'\n')).collect();
+    let starts: Vec<usize> = (1..text.len())
+        .filter(|&i| text[i].is_ascii_digit() && (text[i - 1] == b',' || text[i - 1] == b'\n'))
+        .collect();
     if starts.is_empty() {
         return [&text[..], b"1"].concat();
     }
@@ -246,7 +247,8 @@ fn spoil_line(rng: &mut Rng, text: Vec<u8>) -> Vec<u8> {
         4 => lines[at] = b"\r\n".to_vec(),
         5 => {
             lines[at] =
-                [&body[..], rng.pick(&["\n", "\r", "\n\r", "\r\r\n", "\r\n\r\n", "", " \r\n", ",\r\n"]).as_bytes()].concat()
+                [&body[..], rng.pick(&["\n", "\r", "\n\r", "\r\r\n", "\r\n\r\n", "", " \r\n", ",\r\n"]).as_bytes()]
+                    .concat()
         }
         6 => lines.insert(at, b"\r\n".to_vec()),
         _ => lines[at] = [b",", &body[..], b"\r\n"].concat(),

@@ -1,4 +1,4 @@
-/* The kit's clang brings no header files: these three stand in for the compiler's own. */
+/* The kit's clang brings no header files: those of this folder stand in for them. */
 #pragma once
 #ifndef __cplusplus
 #define bool _Bool

@@ -13,7 +13,9 @@ use Rattle.admission.specs.Test.{Amax, load, limit, margin, passes}
 use Rattle.admission.proofs.Answers.{Unrefused, full-refused-is, full-is}
 use Rattle.admission.proofs.Bounds.{Amax-zero, limit-small}
 use Rattle.admission.proofs.Laws.{load-all, marginsTo, margins-none, margins-more}
-use Rattle.admission.proofs.Turns.{Checked, sizes-bad, checked-none, row-refused, checked-more, checked-all, Loading, measured-needs, measured, limited-needs, limit-is, loading-none, term-needs, loading-more}
+use Rattle.admission.proofs.Turns.{Checked, sizes-bad, checked-none, row-refused, checked-more, checked-all}
+use Rattle.admission.proofs.Turns.{Loading, measured-needs, measured, limited-needs, limit-is, loading-none}
+use Rattle.admission.proofs.Turns.{term-needs, loading-more}
 use borrow.Author.Needs.{needs}
 use mir.Facts.{toZ-ofZ}
 use mir.Syntax.{w64}
@@ -35,7 +37,8 @@ abbrev μ-loop3 : tie.MeasureT-loop3
 
 abbrev Inv-loop2 : tie.InvT-loop2
 Inv-loop2 t n m p sizes row margins₀ first₀ most₀ k₀ margins first most k =
-    (k ≤ n) × (margins ≡ marginsTo t k) × (first ≡ lowest k (λ j. not (passes t j))) × (most .0 ≡ Amax t k) × Unrefused t
+    (k ≤ n) × (margins ≡ marginsTo t k) × (first ≡ lowest k (λ j. not (passes t j)))
+    × (most .0 ≡ Amax t k) × Unrefused t
 
 abbrev μ-loop2 : tie.MeasureT-loop2
 μ-loop2 t n m p sizes row margins₀ first₀ most₀ k₀ margins first most k = n - k
@@ -49,7 +52,8 @@ full-refused-requires c κs = search needs
 returns : tie.Need-returns Inv-loop μ-loop Inv-loop3 μ-loop3 Inv-loop2 μ-loop2
 returns c =
     let z = c .before .before in
-    c .full-refused .ensures ∙ full-refused-is (sizes-bad (z .before .before .before .args .t1) (z .sizes-refused .ensures) (c .before .if1 .taken))
+    c .full-refused .ensures ∙ full-refused-is (sizes-bad (z .before .before .before .args .t1)
+    (z .sizes-refused .ensures) (c .before .if1 .taken))
 
 loop-holds : tie.Need-loop-holds Inv-loop μ-loop Inv-loop3 μ-loop3 Inv-loop2 μ-loop2
 loop-holds c =
@@ -78,7 +82,8 @@ returns-2 : tie.Need-returns-2 Inv-loop μ-loop Inv-loop3 μ-loop3 Inv-loop2 μ-
 returns-2 c =
     let r = c .before .before in
     let l = r .before .before in
-    c .full-refused2 .ensures ∙ full-refused-is (row-refused (l .before .loop .inv .1) (l .loop-test .taken) (r .refused .ensures) (c .before .if2 .taken))
+    c .full-refused2 .ensures ∙ full-refused-is (row-refused (l .before .loop .inv .1) (l .loop-test .taken)
+    (r .refused .ensures) (c .before .if2 .taken))
 
 add-row : tie.Need-add-row Inv-loop μ-loop Inv-loop3 μ-loop3 Inv-loop2 μ-loop2
 add-row c = search needs
@@ -89,11 +94,19 @@ loop-less c = search needs
 loop-again : tie.Need-loop-again Inv-loop μ-loop Inv-loop3 μ-loop3 Inv-loop2 μ-loop2
 loop-again c =
     let r = c .before in
-    let l = r .before .before in
-    (search needs, checked-more (l .before .loop .inv .1) (l .loop-test .taken) (sym (c .if2 .left) ∙ r .refused .ensures))
+    let l = r .before .before in (
+      search needs,
+      checked-more (l .before .loop .inv .1) (l .loop-test .taken) (sym (c .if2 .left) ∙ r .refused .ensures),
+    )
 
 loop2-holds : tie.Need-loop2-holds Inv-loop μ-loop Inv-loop3 μ-loop3 Inv-loop2 μ-loop2
-loop2-holds c = (search needs, margins-none _, sym (lowest-zero _), sym (Amax-zero _), checked-all (c .before .loop .inv .1) (omega arith))
+loop2-holds c = (
+  search needs,
+  margins-none _,
+  sym (lowest-zero _),
+  sym (Amax-zero _),
+  checked-all (c .before .loop .inv .1) (omega arith),
+)
 
 mul-measured : tie.Need-mul-measured Inv-loop μ-loop Inv-loop3 μ-loop3 Inv-loop2 μ-loop2
 mul-measured c = search needs
@@ -102,7 +115,8 @@ element-copy-out-measured : tie.Need-element-copy-out-measured Inv-loop μ-loop 
 element-copy-out-measured c = search needs
 
 measured-requires : tie.Need-measured-requires Inv-loop μ-loop Inv-loop3 μ-loop3 Inv-loop2 μ-loop2
-measured-requires c κs = let o = c .before .before in measured-needs (o .loop2 .inv .4 .good) (c .before .loop2-test .taken) (o .loop2 .inv .3)
+measured-requires c κs = let o = c .before .before in
+    measured-needs (o .loop2 .inv .4 .good) (c .before .loop2-test .taken) (o .loop2 .inv .3)
 
 loop3-holds : tie.Need-loop3-holds Inv-loop μ-loop Inv-loop3 μ-loop3 Inv-loop2 μ-loop2
 loop3-holds c =
@@ -110,8 +124,10 @@ loop3-holds c =
     let t = x .before .before in
     let o = t .before in
     let e = x .measured .ensures in
-    let g = o .loop2 .inv .4 .good in
-    (search needs, loading-none g (t .loop2-test .taken) (measured g (t .loop2-test .taken) (o .loop2 .inv .3) (e .0) (e .1) (e .2)))
+    let g = o .loop2 .inv .4 .good in (
+      search needs,
+      loading-none g (t .loop2-test .taken) (measured g (t .loop2-test .taken) (o .loop2 .inv .3) (e .0) (e .1) (e .2)),
+    )
 
 mul-term : tie.Need-mul-term Inv-loop μ-loop Inv-loop3 μ-loop3 Inv-loop2 μ-loop2
 mul-term c = search needs
@@ -123,7 +139,11 @@ term-requires : tie.Need-term-requires Inv-loop μ-loop Inv-loop3 μ-loop3 Inv-l
 term-requires c κs = term-needs (c .before .before .loop3 .inv .1) (c .before .loop3-test .taken)
 
 add-load : tie.Need-add-load Inv-loop μ-loop Inv-loop3 μ-loop3 Inv-loop2 μ-loop2
-add-load c = omega (arith, loading-more (c .before .before .before .loop3 .inv .1) (c .before .before .loop3-test .taken) (c .term .ensures) .small)
+add-load c = omega (
+  arith,
+  loading-more (c .before .before .before .loop3 .inv .1) (c .before .before .loop3-test .taken)
+      (c .term .ensures) .small,
+)
 
 add-i : tie.Need-add-i Inv-loop μ-loop Inv-loop3 μ-loop3 Inv-loop2 μ-loop2
 add-i c = search needs
@@ -132,15 +152,20 @@ loop3-less : tie.Need-loop3-less Inv-loop μ-loop Inv-loop3 μ-loop3 Inv-loop2 �
 loop3-less c = search needs
 
 loop3-again : tie.Need-loop3-again Inv-loop μ-loop Inv-loop3 μ-loop3 Inv-loop2 μ-loop2
-loop3-again c = (search needs, loading-more (c .before .before .before .loop3 .inv .1) (c .before .before .loop3-test .taken) (c .term .ensures))
+loop3-again c = (
+  search needs,
+  loading-more (c .before .before .before .loop3 .inv .1) (c .before .before .loop3-test .taken) (c .term .ensures),
+)
 
 limited-requires : tie.Need-limited-requires Inv-loop μ-loop Inv-loop3 μ-loop3 Inv-loop2 μ-loop2
 limited-requires c κs = let l = c .before .loop3 .inv .1 in limited-needs (l .good) (l .task) (l .measures)
 
 difference-requires : tie.Need-difference-requires Inv-loop μ-loop Inv-loop3 μ-loop3 Inv-loop2 μ-loop2
 difference-requires c κs =
-    let l = c .before .before .loop3 .inv .1 in
-    (rw (c .limited .ensures, limit-is (l .good) (l .task) (l .measures)) (limit-small (l .good) _ (l .task)), omega (arith, l .small, l .good .sizes .few))
+    let l = c .before .before .loop3 .inv .1 in (
+      rw (c .limited .ensures, limit-is (l .good) (l .task) (l .measures)) (limit-small (l .good) _ (l .task)),
+      omega (arith, l .small, l .good .sizes .few),
+    )
 
 mul-margins : tie.Need-mul-margins Inv-loop μ-loop Inv-loop3 μ-loop3 Inv-loop2 μ-loop2
 mul-margins c = search needs
@@ -166,7 +191,8 @@ loop2-again c =
     let t = o .before .before .before .before .before .before .before .args .t1 in
     let k = o .loop2 .k in
     let at-end : h .loop3 .i ≡ t .n = omega arith in
-    let top : d .before .limited .result ≡ limit t (suc k) = d .before .limited .ensures ∙ limit-is (l .good) (l .task) (l .measures) in
+    let top : d .before .limited .result ≡ limit t (suc k) =
+    d .before .limited .ensures ∙ limit-is (l .good) (l .task) (l .measures) in
     let sum : h .loop3 .load ≡ load t (suc k) = l .is ∙ rw at-end (load-all t (suc k)) in
     let is : toZ w64 (ofZ w64 (d .difference .result)) ≡ margin t (suc k) =
     toZ-ofZ {w = w64} (record { sfits = d .difference .ok }) ∙ (d .difference .ensures ∙ rw (top, sum)) in (

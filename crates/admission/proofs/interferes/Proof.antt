@@ -18,7 +18,8 @@ cast-result-2 : tie.Need-cast-result-2
 cast-result-2 c = search needs
 
 mul-result : tie.Need-mul-result
-mul-result c = let s = c .before .before in fits-mul 65537 65535 tt (omega (arith, jobs-le (s .pre .1) (s .pre .0))) (omega arith)
+mul-result c = let s = c .before .before in
+    fits-mul 65537 65535 tt (omega (arith, jobs-le (s .pre .1) (s .pre .0))) (omega arith)
 
 returns : tie.Need-returns
 returns c = search needs

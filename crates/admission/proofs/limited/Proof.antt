@@ -14,7 +14,8 @@ mul-result : tie.Need-mul-result
 mul-result c = let s = c .before .before in fits-mul 16 65 tt (s .pre .0) (s .pre .1)
 
 mul-result-2 : tie.Need-mul-result-2
-mul-result-2 c = let s = c .before .before in fits-mul 1040 65535 tt (mul-le-mul {n₂ = 16} {m₂ = 65} (s .pre .0) (s .pre .1)) (s .pre .2)
+mul-result-2 c = let s = c .before .before in
+    fits-mul 1040 65535 tt (mul-le-mul {n₂ = 16} {m₂ = 65} (s .pre .0) (s .pre .1)) (s .pre .2)
 
 returns : tie.Need-returns
 returns c = search needs

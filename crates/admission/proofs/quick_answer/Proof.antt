@@ -14,7 +14,9 @@ use Rattle.admission.specs.Code.Judged.{quickJudged}
 use Rattle.admission.proofs.Answers.{Unrefused, quick-refused-is, quick-is}
 use Rattle.admission.proofs.Bounds.{Amax-zero}
 use Rattle.admission.proofs.Laws.{load-all, load-grows, passes-below, fails-reached}
-use Rattle.admission.proofs.Turns.{Checked, sizes-bad, checked-none, row-refused, checked-more, checked-all, Loading, measured-needs, measured, limited-needs, limit-is, loading-none, term-needs, loading-more}
+use Rattle.admission.proofs.Turns.{Checked, sizes-bad, checked-none, row-refused, checked-more, checked-all}
+use Rattle.admission.proofs.Turns.{Loading, measured-needs, measured, limited-needs, limit-is, loading-none}
+use Rattle.admission.proofs.Turns.{term-needs, loading-more}
 use borrow.Author.Needs.{needs}
 use Rattle.admission.proofs.quick_answer.Statement.{statement}
 use Rattle.admission.proofs.quick_answer.Tie as tie
@@ -26,7 +28,8 @@ abbrev μ-loop : tie.MeasureT-loop
 μ-loop t n m p sizes row₀ row = n - row
 
 abbrev Inv-loop2 : tie.InvT-loop2
-Inv-loop2 t n m p sizes row answer₀ most k x l load₀ i₀ answer load i = (i ≤ n) × Loading t k x load i × (0 < i → load < l) × (answer ≡ quickJudged 0)
+Inv-loop2 t n m p sizes row answer₀ most k x l load₀ i₀ answer load i = (i ≤ n) × Loading t k x load i
+    × (0 < i → load < l) × (answer ≡ quickJudged 0)
 
 abbrev μ-loop2 : tie.MeasureT-loop2
 μ-loop2 t n m p sizes row answer₀ most k x l load₀ i₀ answer load i = n - i
@@ -47,7 +50,8 @@ quick-refused-requires c κs = search needs
 returns : tie.Need-returns Inv-loop μ-loop Inv-loop2 μ-loop2 Inv-tasks μ-tasks
 returns c =
     let z = c .before .before in
-    c .quick-refused .ensures ∙ quick-refused-is (sizes-bad (z .before .before .before .args .t1) (z .sizes-refused .ensures) (c .before .if1 .taken))
+    c .quick-refused .ensures ∙ quick-refused-is (sizes-bad (z .before .before .before .args .t1)
+    (z .sizes-refused .ensures) (c .before .if1 .taken))
 
 loop-holds : tie.Need-loop-holds Inv-loop μ-loop Inv-loop2 μ-loop2 Inv-tasks μ-tasks
 loop-holds c =
@@ -76,7 +80,8 @@ returns-2 : tie.Need-returns-2 Inv-loop μ-loop Inv-loop2 μ-loop2 Inv-tasks μ-
 returns-2 c =
     let r = c .before .before in
     let l = r .before .before in
-    c .quick-refused2 .ensures ∙ quick-refused-is (row-refused (l .before .loop .inv .1) (l .loop-test .taken) (r .refused .ensures) (c .before .if2 .taken))
+    c .quick-refused2 .ensures ∙ quick-refused-is (row-refused (l .before .loop .inv .1) (l .loop-test .taken)
+    (r .refused .ensures) (c .before .if2 .taken))
 
 add-row : tie.Need-add-row Inv-loop μ-loop Inv-loop2 μ-loop2 Inv-tasks μ-tasks
 add-row c = search needs
@@ -87,14 +92,22 @@ loop-less c = search needs
 loop-again : tie.Need-loop-again Inv-loop μ-loop Inv-loop2 μ-loop2 Inv-tasks μ-tasks
 loop-again c =
     let r = c .before in
-    let l = r .before .before in
-    (search needs, checked-more (l .before .loop .inv .1) (l .loop-test .taken) (sym (c .if2 .left) ∙ r .refused .ensures))
+    let l = r .before .before in (
+      search needs,
+      checked-more (l .before .loop .inv .1) (l .loop-test .taken) (sym (c .if2 .left) ∙ r .refused .ensures),
+    )
 
 quick-judged-requires : tie.Need-quick-judged-requires Inv-loop μ-loop Inv-loop2 μ-loop2 Inv-tasks μ-tasks
 quick-judged-requires c κs = search needs
 
 tasks-holds : tie.Need-tasks-holds Inv-loop μ-loop Inv-loop2 μ-loop2 Inv-tasks μ-tasks
-tasks-holds c = (search needs, lowest-zero _, sym (Amax-zero _), checked-all (c .before .before .loop .inv .1) (omega arith), c .quick-judged .ensures)
+tasks-holds c = (
+  search needs,
+  lowest-zero _,
+  sym (Amax-zero _),
+  checked-all (c .before .before .loop .inv .1) (omega arith),
+  c .quick-judged .ensures,
+)
 
 mul-measured : tie.Need-mul-measured Inv-loop μ-loop Inv-loop2 μ-loop2 Inv-tasks μ-tasks
 mul-measured c = search needs
@@ -103,7 +116,8 @@ element-copy-out-measured : tie.Need-element-copy-out-measured Inv-loop μ-loop 
 element-copy-out-measured c = search needs
 
 measured-requires : tie.Need-measured-requires Inv-loop μ-loop Inv-loop2 μ-loop2 Inv-tasks μ-tasks
-measured-requires c κs = let o = c .before .before in measured-needs (o .tasks .inv .3 .good) (c .before .tasks-test .taken) (o .tasks .inv .2)
+measured-requires c κs = let o = c .before .before in
+    measured-needs (o .tasks .inv .3 .good) (c .before .tasks-test .taken) (o .tasks .inv .2)
 
 limited-requires : tie.Need-limited-requires Inv-loop μ-loop Inv-loop2 μ-loop2 Inv-tasks μ-tasks
 limited-requires c κs =
@@ -120,8 +134,12 @@ loop2-holds c =
     let t = x .before .before in
     let o = t .before in
     let e = x .measured .ensures in
-    let g = o .tasks .inv .3 .good in
-    (search needs, loading-none g (t .tasks-test .taken) (measured g (t .tasks-test .taken) (o .tasks .inv .2) (e .0) (e .1) (e .2)), λ z. omega arith, o .tasks .inv .4)
+    let g = o .tasks .inv .3 .good in (
+      search needs,
+      loading-none g (t .tasks-test .taken) (measured g (t .tasks-test .taken) (o .tasks .inv .2) (e .0) (e .1) (e .2)),
+      λ z. omega arith,
+      o .tasks .inv .4,
+    )
 
 mul-term : tie.Need-mul-term Inv-loop μ-loop Inv-loop2 μ-loop2 Inv-tasks μ-tasks
 mul-term c = search needs
@@ -133,7 +151,11 @@ term-requires : tie.Need-term-requires Inv-loop μ-loop Inv-loop2 μ-loop2 Inv-t
 term-requires c κs = term-needs (c .before .before .loop2 .inv .1) (c .before .loop2-test .taken)
 
 add-load : tie.Need-add-load Inv-loop μ-loop Inv-loop2 μ-loop2 Inv-tasks μ-tasks
-add-load c = omega (arith, loading-more (c .before .before .before .loop2 .inv .1) (c .before .before .loop2-test .taken) (c .term .ensures) .small)
+add-load c = omega (
+  arith,
+  loading-more (c .before .before .before .loop2 .inv .1) (c .before .before .loop2-test .taken)
+      (c .term .ensures) .small,
+)
 
 add-quick-judged : tie.Need-add-quick-judged Inv-loop μ-loop Inv-loop2 μ-loop2 Inv-tasks μ-tasks
 add-quick-judged c = search needs
@@ -150,8 +172,12 @@ loop2-less c = search needs
 loop2-again : tie.Need-loop2-again Inv-loop μ-loop Inv-loop2 μ-loop2 Inv-tasks μ-tasks
 loop2-again c =
     let s = c .before in
-    let h = s .before .before .before in
-    (search needs, loading-more (h .loop2 .inv .1) (s .before .before .loop2-test .taken) (s .term .ensures), λ z. c .if3 .left, h .loop2 .inv .3)
+    let h = s .before .before .before in (
+      search needs,
+      loading-more (h .loop2 .inv .1) (s .before .before .loop2-test .taken) (s .term .ensures),
+      λ z. c .if3 .left,
+      h .loop2 .inv .3,
+    )
 
 add-k : tie.Need-add-k Inv-loop μ-loop Inv-loop2 μ-loop2 Inv-tasks μ-tasks
 add-k c = search needs
@@ -181,7 +207,8 @@ tasks-again c =
 returns-3 : tie.Need-returns-3 Inv-loop μ-loop Inv-loop2 μ-loop2 Inv-tasks μ-tasks
 returns-3 c =
     let o = c .before in
-    let at-end : o .tasks .k ≡ o .before .before .before .before .before .before .before .before .args .t1 .n = omega arith in
+    let at-end : o .tasks .k
+    ≡ o .before .before .before .before .before .before .before .before .args .t1 .n = omega arith in
     o .tasks .inv .4 ∙ quick-is (o .tasks .inv .3) (sym (rw at-end at (o .tasks .inv .1)))
 
 returns-4 : tie.Need-returns-4 Inv-loop μ-loop Inv-loop2 μ-loop2 Inv-tasks μ-tasks
@@ -194,9 +221,11 @@ returns-4 c =
     let k = o .tasks .k in
     let up = load-grows t (suc k) (h .loop2 .i + 1) (t .n) (omega arith) in
     let top = limit-is (l .good) (l .task) (l .measures) in
-    let reached : limit t (suc k) ≤ load t (suc k) = omega (arith, up, load-all t (suc k), l .is, h .before .limited .ensures, top, c .before .if3 .taken) in
+    let reached : limit t (suc k) ≤ load t (suc k) =
+    omega (arith, up, load-all t (suc k), l .is, h .before .limited .ensures, top, c .before .if3 .taken) in
     let found = lowest-found (λ j. not (passes t j)) k (o .tasks .inv .1) (fails-reached t (suc k) reached) in
-    c .quick-judged2 .ensures ∙ quick-is (o .tasks .inv .3) (sym (rw (add-one k) (lowest-stays (λ j. not (passes t j)) (suc k) (t .n) k (omega arith) (rw (add-one k) at found))))
+    c .quick-judged2 .ensures ∙ quick-is (o .tasks .inv .3) (sym (rw (add-one k)
+    (lowest-stays (λ j. not (passes t j)) (suc k) (t .n) k (omega arith) (rw (add-one k) at found))))
 
 pub quick-answer-spec : {M : Type 1} → statement M
 quick-answer-spec =

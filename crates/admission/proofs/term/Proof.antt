@@ -17,7 +17,8 @@ mul-result : tie.Need-mul-result
 mul-result c =
     let s = c .before .before in
     let row = s .pre .3 in
-    rw (c .before .weighs .ensures, c .interferes .ensures) (fits-mul 1024 4294967295 tt (weight-le row (s .pre .0) (s .pre .1)) (interference-le row (s .pre .2)))
+    rw (c .before .weighs .ensures, c .interferes .ensures)
+    (fits-mul 1024 4294967295 tt (weight-le row (s .pre .0) (s .pre .1)) (interference-le row (s .pre .2)))
 
 returns : tie.Need-returns
 returns c = rw (c .before .weighs .ensures, c .interferes .ensures)

@@ -1,4 +1,5 @@
--- The answers to a table that is not refused, by the first task that does not pass: what the code returns at the end of its loops. No statement rests on these.
+-- The answers to a table that is not refused, by the first task that does not pass: what the code returns at the end of
+-- its loops. No statement rests on these.
 use Prim.Native.Nat.{ℕ}
 use mathlib.Core.List.{List}
 use lib.Dec.{eqb}

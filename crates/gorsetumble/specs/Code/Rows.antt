@@ -1,4 +1,5 @@
--- The table of a lent row on its way, as the code fills it. No statement of a public function rests on these definitions.
+-- The table of a lent row on its way, as the code fills it. No statement of a public function rests on these
+-- definitions.
 use Prim.Native.Nat.{ℕ}
 use mathlib.Core.List.{List}
 use Rattle.maths.specs.Tasks.{tabulate}

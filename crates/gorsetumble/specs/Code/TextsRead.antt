@@ -1,4 +1,5 @@
--- Set-up from two texts as the code goes about it: first the texts are read, then the machine is set up from what was read.
+-- Set-up from two texts as the code goes about it: first the texts are read, then the machine is set up from what was
+-- read.
 -- No statement of a public function rests on these definitions.
 use Prim.Native.Nat.{ℕ}
 use mathlib.Core.Bool.{cond}
@@ -22,10 +23,12 @@ unread text offset = record { refused = badIn text offset; table = emptyTable no
 abbrev pub readOf : Answer (List (List ℕ)) → Answer (List (List ℕ)) → TextsRead
 readOf (refused offset) tasks = unread inPlatform offset
 readOf (found platform) (refused offset) = unread inTasks offset
-readOf (found platform) (found rows) = record { refused = record { refused = noRefusal; text = 0 }; table = tableFrom platform rows }
+readOf (found platform) (found rows) =
+    record { refused = record { refused = noRefusal; text = 0 }; table = tableFrom platform rows }
 
 unfoldable pub textsRead : List ℕ → List ℕ → TextsRead
 textsRead platform tasks = readOf (read platformForm platform) (read tasksForm tasks)
 
 unfoldable pub renewed : Machine → TextsRead → TextsSetUp
-renewed old t = cond (eqb (t .refused .refused .number) 0) (ofTable (setUp old (t .table))) (record { refused = t .refused; machine = old })
+renewed old t = cond (eqb (t .refused .refused .number) 0) (ofTable (setUp old (t .table)))
+    (record { refused = t .refused; machine = old })

@@ -1,4 +1,5 @@
--- The job of one task before step 5 of a tick. No statement rests on these definitions: they are steps 1, 2 and 4 of `Steps` task by task.
+-- The job of one task before step 5 of a tick. No statement rests on these definitions: they are steps 1, 2 and 4 of
+-- `Steps` task by task.
 use mathlib.Core.Bool.{Bool, cond}
 use Rattle.table.specs.declared.Task.{Task}
 use Rattle.machine.specs.declared.Job.{Job}

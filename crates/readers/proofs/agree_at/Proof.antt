@@ -12,7 +12,8 @@ use Rattle.readers.proofs.agree_at.Tie as tie
 -- The loop's invariant: what is left of the word, against what is left of the text, ends where the whole does.
 
 abbrev Inv-loop : tie.InvT-loop
-Inv-loop s at word next₀ i₀ next i = (next ≤ length s) × (agreeAt s at word ≡ agreeFrom next (drop i word) (drop next s))
+Inv-loop s at word next₀ i₀ next i = (next ≤ length s)
+    × (agreeAt s at word ≡ agreeFrom next (drop i word) (drop next s))
 
 abbrev μ-loop : tie.MeasureT-loop
 μ-loop s at word next₀ i₀ next i = length word - i
@@ -33,7 +34,8 @@ returns-2 : tie.Need-returns-2 Inv-loop μ-loop
 returns-2 c =
     let k = c .before .before .before .before .before in
     let args = k .before .args in
-    sym (k .loop .inv .1 ∙ agree-other (args .s .now) (k .loop .next) (args .word .now) (k .loop .i) (omega arith) (omega arith) (c .if2 .taken))
+    sym (k .loop .inv .1 ∙ agree-other (args .s .now) (k .loop .next) (args .word .now) (k .loop .i) (omega arith)
+    (omega arith) (c .if2 .taken))
 
 add-next : tie.Need-add-next Inv-loop μ-loop
 add-next c = search needs
@@ -47,11 +49,15 @@ loop-less c = search needs
 loop-again : tie.Need-loop-again Inv-loop μ-loop
 loop-again c =
     let k = c .before .before .before .before .before in
-    let args = k .before .args in
-    (search needs, k .loop .inv .1 ∙ agree-more (args .s .now) (k .loop .next) (args .word .now) (k .loop .i) (omega arith) (omega arith) (c .if2 .left))
+    let args = k .before .args in (
+      search needs,
+      k .loop .inv .1 ∙ agree-more (args .s .now) (k .loop .next) (args .word .now) (k .loop .i) (omega arith)
+          (omega arith) (c .if2 .left),
+    )
 
 returns-3 : tie.Need-returns-3 Inv-loop μ-loop
-returns-3 c = sym (c .before .loop .inv .1 ∙ agree-end _ (c .before .before .args .word .now) _ (c .before .loop .i) (omega arith))
+returns-3 c = sym (c .before .loop .inv .1
+    ∙ agree-end _ (c .before .before .args .word .now) _ (c .before .loop .i) (omega arith))
 
 pub agree-at-spec : {M : Type 1} → statement M
 agree-at-spec =

@@ -7,12 +7,14 @@ use native.Mathlib.Omega.{arith}
 use borrow.Author.Tests.{not-true, not-false}
 use lib.ListN.{length, drop}
 use Rattle.readers.specs.Places.{numberFrom, numberAt}
-use Rattle.readers.proofs.Places.{number-short, number-not, number-first, number-end, number-zero, number-stop, number-more}
+use Rattle.readers.proofs.Places.{number-short, number-not, number-first, number-end, number-zero, number-stop}
+use Rattle.readers.proofs.Places.{number-more}
 use Rattle.readers.proofs.number_at.Statement.{statement}
 use Rattle.readers.proofs.number_at.Tie as tie
 
 abbrev Inv-loop : tie.InvT-loop
-Inv-loop s at most v₀ next₀ v next = (next ≤ length s) × (numberAt most s at ≡ numberFrom most next (some v) (drop next s))
+Inv-loop s at most v₀ next₀ v next = (next ≤ length s)
+    × (numberAt most s at ≡ numberFrom most next (some v) (drop next s))
 
 abbrev μ-loop : tie.MeasureT-loop
 μ-loop s at most v₀ next₀ v next = length s - next
@@ -29,15 +31,19 @@ with-digit-requires c κs = search needs
 returns-2 : tie.Need-returns-2 Inv-loop μ-loop
 returns-2 c =
     let args = c .before .before .before .before .before .before .args in
-    sym (number-not (args .most) (args .s .now) (args .at) (omega arith) _ (c .before .before .with-digit .ensures) (not-true _ (c .if2 .taken)))
+    sym (number-not (args .most) (args .s .now) (args .at) (omega arith) _ (c .before .before .with-digit .ensures)
+    (not-true _ (c .if2 .taken)))
 
 add-next : tie.Need-add-next Inv-loop μ-loop
 add-next c = search needs
 
 loop-holds : tie.Need-loop-holds Inv-loop μ-loop
 loop-holds c =
-    let args = c .before .before .before .before .before .before .args in
-    (search needs, number-first (args .most) (args .s .now) (args .at) (omega arith) _ (c .before .before .with-digit .ensures) (not-false _ (c .if2 .left)))
+    let args = c .before .before .before .before .before .before .args in (
+      search needs,
+      number-first (args .most) (args .s .now) (args .at) (omega arith) _ (c .before .before .with-digit .ensures)
+          (not-false _ (c .if2 .left)),
+    )
 
 returns-3 : tie.Need-returns-3 Inv-loop μ-loop
 returns-3 c =
@@ -56,7 +62,8 @@ returns-4 : tie.Need-returns-4 Inv-loop μ-loop
 returns-4 c =
     let k = c .before .before .before .before .before .before in
     let args = k .before .before .before .before .before .before .before .args in
-    sym (k .loop .inv .1 ∙ number-stop (args .most) (args .s .now) (k .loop .next) (omega arith) (k .loop .v) (omega arith) _ (c .before .before .with-digit2 .ensures) (not-true _ (c .if4 .taken)))
+    sym (k .loop .inv .1 ∙ number-stop (args .most) (args .s .now) (k .loop .next) (omega arith) (k .loop .v)
+    (omega arith) _ (c .before .before .with-digit2 .ensures) (not-true _ (c .if4 .taken)))
 
 add-next-2 : tie.Need-add-next-2 Inv-loop μ-loop
 add-next-2 c = search needs
@@ -69,7 +76,8 @@ loop-again c =
     let k = c .before .before .before .before .before .before in
     let args = k .before .before .before .before .before .before .before .args in (
       search needs,
-      k .loop .inv .1 ∙ number-more (args .most) (args .s .now) (k .loop .next) (omega arith) (k .loop .v) (omega arith) _ (c .before .before .with-digit2 .ensures) (not-false _ (c .if4 .left)),
+      k .loop .inv .1 ∙ number-more (args .most) (args .s .now) (k .loop .next) (omega arith) (k .loop .v)
+          (omega arith) _ (c .before .before .with-digit2 .ensures) (not-false _ (c .if4 .left)),
     )
 
 returns-5 : tie.Need-returns-5 Inv-loop μ-loop

@@ -21,7 +21,8 @@ bad-requires : tie.Need-bad-requires
 bad-requires c κs = search needs
 
 returns : tie.Need-returns
-returns c = c .bad .ensures ∙ ap platformRead (sym (head-bad platformForm _ _ (c .before .before .agree-at .ensures) (c .before .if1 .taken)))
+returns c = c .bad .ensures
+    ∙ ap platformRead (sym (head-bad platformForm _ _ (c .before .before .agree-at .ensures) (c .before .if1 .taken)))
 
 slice-aggregate-row-at : tie.Need-slice-aggregate-row-at
 slice-aggregate-row-at c = search needs
@@ -39,7 +40,8 @@ returns-2 : tie.Need-returns-2
 returns-2 c =
     let x = c .before .before in
     let k = x .before .before .before in
-    c .bad2 .ensures ∙ ap platformRead (sym (cut-row _ _ (k .agree-at .ensures) (x .before .before .if1 .left) _ (x .row-at .ensures) (not-true _ (c .before .if2 .taken))))
+    c .bad2 .ensures ∙ ap platformRead (sym (cut-row _ _ (k .agree-at .ensures) (x .before .before .if1 .left) _
+    (x .row-at .ensures) (not-true _ (c .before .if2 .taken))))
 
 bad-requires-3 : tie.Need-bad-requires-3
 bad-requires-3 c κs = search needs
@@ -48,7 +50,8 @@ returns-3 : tie.Need-returns-3
 returns-3 c =
     let x = c .before .before .before in
     let k = x .before .before .before in
-    c .bad3 .ensures ∙ ap platformRead (sym (second-row _ _ (k .agree-at .ensures) (x .before .before .if1 .left) _ (x .row-at .ensures) (not-false _ (c .before .before .if2 .left)) (c .before .if3 .taken)))
+    c .bad3 .ensures ∙ ap platformRead (sym (second-row _ _ (k .agree-at .ensures) (x .before .before .if1 .left) _
+    (x .row-at .ensures) (not-false _ (c .before .before .if2 .left)) (c .before .if3 .taken)))
 
 element-copy-out-t20 : tie.Need-element-copy-out-t20
 element-copy-out-t20 c = search needs
@@ -72,7 +75,8 @@ returns-4 : tie.Need-returns-4
 returns-4 c =
     let x = c .before .before .before .before in
     let k = x .before .before .before in
-    sym (one-row _ _ (k .agree-at .ensures) (omega arith) _ (x .row-at .ensures) (not-false _ (c .before .before .before .if2 .left)) (omega arith))
+    sym (one-row _ _ (k .agree-at .ensures) (omega arith) _ (x .row-at .ensures)
+    (not-false _ (c .before .before .before .if2 .left)) (omega arith))
 
 pub read-platform-spec : {M : Type 1} → statement M
 read-platform-spec =

@@ -31,7 +31,8 @@ bad-requires c κs = search needs
 returns : tie.Need-returns Inv-loop μ-loop
 returns c =
     let args = c .before .before .before .before .before .args in
-    c .bad .ensures ∙ ap (tableRead (args .platform)) (sym (head-bad tasksForm _ _ (c .before .before .agree-at .ensures) (c .before .if1 .taken)))
+    c .bad .ensures ∙ ap (tableRead (args .platform))
+    (sym (head-bad tasksForm _ _ (c .before .before .agree-at .ensures) (c .before .if1 .taken)))
 
 none-requires : tie.Need-none-requires Inv-loop μ-loop
 none-requires c κs = search needs
@@ -57,7 +58,8 @@ returns-2 c =
     let args = k .before .before .before .before .before .before .args in
     c .bad2 .ensures
     ∙ ap (tableRead (args .platform))
-    (sym (here-bad _ _ _ _ (k .loop .inv) (x .before .before .loop-test .taken) _ (x .row-at .ensures) (not-true _ (c .before .if2 .taken))))
+    (sym (here-bad _ _ _ _ (k .loop .inv) (x .before .before .loop-test .taken) _ (x .row-at .ensures)
+    (not-true _ (c .before .if2 .taken))))
 
 task-of-requires : tie.Need-task-of-requires Inv-loop μ-loop
 task-of-requires c κs =
@@ -77,7 +79,8 @@ loop-less : tie.Need-loop-less Inv-loop μ-loop
 loop-less c =
     let x = c .before .before .before .before in
     let k = x .before .before .before in
-    let far = here-far _ _ _ _ (k .loop .inv) (x .before .before .loop-test .taken) _ (x .row-at .ensures) (not-false _ (c .before .before .if2 .left)) in
+    let far = here-far _ _ _ _ (k .loop .inv) (x .before .before .loop-test .taken) _ (x .row-at .ensures)
+    (not-false _ (c .before .before .if2 .left)) in
     omega arith
 
 loop-again : tie.Need-loop-again Inv-loop μ-loop

@@ -27,7 +27,8 @@ bad-requires : tie.Need-bad-requires Inv-loop μ-loop
 bad-requires c κs = search needs
 
 returns : tie.Need-returns Inv-loop μ-loop
-returns c = c .bad .ensures ∙ sym (ap ticksRead (head-bad ticksForm _ _ (c .before .before .agree-at .ensures) (c .before .if1 .taken)))
+returns c = c .bad .ensures
+    ∙ sym (ap ticksRead (head-bad ticksForm _ _ (c .before .before .agree-at .ensures) (c .before .if1 .taken)))
 
 loop-holds : tie.Need-loop-holds Inv-loop μ-loop
 loop-holds c =
@@ -49,7 +50,8 @@ returns-2 c =
     let x = e .before .before in
     let k = x .before .before .before in
     c .bad2 .ensures
-    ∙ sym (ap ticksRead (line-bad ticksForm refl _ _ _ _ (k .loop .inv .line) (x .before .before .loop-test .taken) _ (x .row-at .ensures) (not-true _ (e .if2 .taken))))
+    ∙ sym (ap ticksRead (line-bad ticksForm refl _ _ _ _ (k .loop .inv .line) (x .before .before .loop-test .taken) _
+    (x .row-at .ensures) (not-true _ (e .if2 .taken))))
 
 add-n : tie.Need-add-n Inv-loop μ-loop
 add-n c =
@@ -62,7 +64,8 @@ loop-less : tie.Need-loop-less Inv-loop μ-loop
 loop-less c =
     let x = c .before .before in
     let k = x .before .before .before in
-    let on = line-row ticksForm refl _ _ _ _ (k .loop .inv .line) (x .before .before .loop-test .taken) _ (x .row-at .ensures) (not-false _ (c .if2 .left)) in
+    let on = line-row ticksForm refl _ _ _ _ (k .loop .inv .line) (x .before .before .loop-test .taken) _
+    (x .row-at .ensures) (not-false _ (c .if2 .left)) in
     let far = on .far in
     omega arith
 
@@ -72,7 +75,8 @@ loop-again c =
     let k = x .before .before .before in
     record {
       rows = _;
-      line = line-next ticksForm refl _ _ _ _ (k .loop .inv .line) (x .before .before .loop-test .taken) _ (x .row-at .ensures) (not-false _ (c .if2 .left));
+      line = line-next ticksForm refl _ _ _ _ (k .loop .inv .line) (x .before .before .loop-test .taken) _
+          (x .row-at .ensures) (not-false _ (c .if2 .left));
     }
 
 returns-3 : tie.Need-returns-3 Inv-loop μ-loop

@@ -48,7 +48,8 @@ returns c =
     let k = c .before .before .before .before .before in
     let s = k .before .before .before in
     let columns = s .args .columns .now in
-    sym (k .loop .inv .3 ∙ row-stop (s .args .s .now) _ columns (k .loop .j) (k .loop .next) (omega arith) _ (c .before .before .cell-at .ensures) (not-true _ (c .if1 .taken)))
+    sym (k .loop .inv .3 ∙ row-stop (s .args .s .now) _ columns (k .loop .j) (k .loop .next) (omega arith) _
+    (c .before .before .cell-at .ensures) (not-true _ (c .if1 .taken)))
 
 mul-numbers : tie.Need-mul-numbers Inv-loop μ-loop
 mul-numbers c = search needs
@@ -68,12 +69,14 @@ loop-again c =
     let s = k .before .before .before in
     let columns = s .args .columns .now in
     let x = c .before .before .cell-at in
-    let fill = filled-take 0 mostColumns (k .loop .numbers) (k .loop .j) (x .result .value) (k .loop .inv .2) (omega arith) in (
+    let fill =
+    filled-take 0 mostColumns (k .loop .numbers) (k .loop .j) (x .result .value) (k .loop .inv .2) (omega arith) in (
       search needs,
       rw (x .ensures) (cell-inside _ (s .args .s .now) (k .loop .next) _ (k .loop .inv .1)),
       filled 0 mostColumns (k .loop .numbers) (k .loop .j) (x .result .value) (k .loop .inv .2) (omega arith),
       k .loop .inv .3
-          ∙ row-more (s .args .s .now) _ columns (k .loop .j) (k .loop .next) (omega arith) _ (x .ensures) (not-false _ (c .if1 .left))
+          ∙ row-more (s .args .s .now) _ columns (k .loop .j) (k .loop .next) (omega arith) _ (x .ensures)
+          (not-false _ (c .if1 .left))
           ∙ rw fill,
     )
 
@@ -81,7 +84,8 @@ returns-2 : tie.Need-returns-2 Inv-loop μ-loop
 returns-2 c =
     let k = c .before in
     let args = k .before .before .before .args in
-    sym (k .loop .inv .3 ∙ row-end (args .s .now) _ (args .columns .now) (k .loop .j) (k .loop .next) (omega arith) ∙ rw (k .loop .inv .2))
+    sym (k .loop .inv .3
+    ∙ row-end (args .s .now) _ (args .columns .now) (k .loop .j) (k .loop .next) (omega arith) ∙ rw (k .loop .inv .2))
 
 pub row-at-spec : {M : Type 1} → statement M
 row-at-spec =

@@ -36,7 +36,8 @@ returns-3 : tie.Need-returns-3
 returns-3 c =
     let r = c .before .before in
     let args = r .before .before .before .args in
-    c .not3 .ensures ∙ sym (grown-large (args .most) (args .v) (args .c) (leb-false _ _ (sym (r .has-room .ensures) ∙ not-true _ (c .before .if3 .taken))))
+    c .not3 .ensures ∙ sym (grown-large (args .most) (args .v) (args .c)
+    (leb-false _ _ (sym (r .has-room .ensures) ∙ not-true _ (c .before .if3 .taken))))
 
 room : (c : tie.Else3) →
     let args = c .before .before .before .before .args in

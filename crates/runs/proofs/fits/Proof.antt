@@ -16,7 +16,8 @@ returns c =
     let k = c .before .before .before in
     let text = k .args .s .now in
     let count = k .pre .1 in
-    let room : listingMost (k .args .count) ≤ k .args .room = leb-true _ _ (sym (c .before .surely-fits .ensures) ∙ c .if1 .taken) in
+    let room : listingMost (k .args .count) ≤ k .args .room =
+    leb-true _ _ (sym (c .before .surely-fits .ensures) ∙ c .if1 .taken) in
     sym (le-leb _ (k .args .room) (omega (arith, run-most text (k .args .m) (k .pre .0) (omega arith))))
 
 run-room-requires : tie.Need-run-room-requires

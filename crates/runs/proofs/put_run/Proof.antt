@@ -9,7 +9,8 @@ use lib.ListN.{length}
 use Rattle.forms.specs.Forms.{line}
 use Rattle.writers.specs.Code.Put.{Put}
 use Rattle.writers.proofs.Added.{put-added}
-use Rattle.writers.proofs.Sequences.{Putting, putting-start, putting-more, putting-end, putting-room, put-then, put-room, put-length, first-fits}
+use Rattle.writers.proofs.Sequences.{Putting, putting-start, putting-more, putting-end, putting-room, put-then}
+use Rattle.writers.proofs.Sequences.{put-room, put-length, first-fits}
 use Rattle.runs.specs.Code.Runs.{ticksIn}
 use Rattle.runs.proofs.Runs.{header, toCome, run-split, Going, going-start, going-end, Gone, going-on}
 use Rattle.runs.proofs.put_run.Statement.{statement}
@@ -17,7 +18,8 @@ use Rattle.runs.proofs.put_run.Tie as tie
 
 abbrev Inv-loop : tie.InvT-loop
 Inv-loop s out₀ next₀ run₀ out next run =
-    (rows : List (List ℕ)) × Going s run rows × (length out ≡ length out₀) × Putting out₀ next₀ (toCome run₀ (ticksIn s)) out next (toCome run rows)
+    (rows : List (List ℕ)) × Going s run rows × (length out ≡ length out₀)
+    × Putting out₀ next₀ (toCome run₀ (ticksIn s)) out next (toCome run rows)
 
 abbrev μ-loop : tie.MeasureT-loop
 μ-loop s out₀ next₀ run₀ out next run = length s - run .at
@@ -34,17 +36,21 @@ fits c =
 
 gone : (c : tie.After-on Inv-loop μ-loop) →
     let k = c .before .before .before in
-    Gone (k .before .before .before .before .before .before .before .before .before .args .s .now) (k .loop .run) (k .loop .inv .0) (c .on .result)
+    Gone (k .before .before .before .before .before .before .before .before .before .args .s .now) (k .loop .run)
+    (k .loop .inv .0) (c .on .result)
 gone c =
     let k = c .before .before .before in
-    going-on (k .before .before .before .before .before .before .before .before .before .args .s .now) (k .loop .run) (k .loop .inv .0) (c .on .result) (k .loop .inv .1) (c .before .if1 .taken) (c .on .ensures)
+    going-on (k .before .before .before .before .before .before .before .before .before .args .s .now) (k .loop .run)
+    (k .loop .inv .0) (c .on .result) (k .loop .inv .1) (c .before .if1 .taken) (c .on .ensures)
 
 head : (c : tie.At-loop Inv-loop μ-loop) →
     let h = c .before .before .before .before in
-    Put (now (h .before .before .before .before .before .args .out)) 0 header (h .add-word .result) (h .add-word .last .0)
+    Put (now (h .before .before .before .before .before .args .out)) 0 header
+    (h .add-word .result) (h .add-word .last .0)
 head c =
     let args = c .before .before .before .before .before .before .before .before .before .args in
-    put-added _ _ _ _ _ (first-fits header (toCome (c .before .start .result) (ticksIn (args .s .now))) 0 _ (fits c)) (c .before .before .before .before .add-word .ensures)
+    put-added _ _ _ _ _ (first-fits header (toCome (c .before .start .result) (ticksIn (args .s .now))) 0 _ (fits c))
+    (c .before .before .before .before .add-word .ensures)
 
 put : (c : tie.After-add-line Inv-loop μ-loop) →
     let m = c .before .before .before .before in
@@ -56,7 +62,8 @@ put c =
     let on = gone m in
     let args = k .before .before .before .before .before .before .before .before .before .args in
     let room = put-room (toCome (k .before .start .result) (ticksIn (args .s .now))) (head k) (fits k) in
-    put-added _ _ _ _ _ (putting-room (k .loop .inv .3) (line (m .on .result .line)) (toCome (m .on .result) (on .more)) (on .comes) room) (c .add-line .ensures)
+    put-added _ _ _ _ _ (putting-room (k .loop .inv .3) (line (m .on .result .line)) (toCome (m .on .result) (on .more))
+    (on .comes) room) (c .add-line .ensures)
 
 slice-aggregate-add-word : tie.Need-slice-aggregate-add-word Inv-loop μ-loop
 slice-aggregate-add-word c = search needs
@@ -69,8 +76,12 @@ start-requires c κs = search needs
 
 loop-holds : tie.Need-loop-holds Inv-loop μ-loop
 loop-holds c =
-    let k = c .before .before .before .before .before .before .before .before in
-    (ticksIn (k .args .s .now), rw (c .start .ensures) (going-start (k .args .s .now) (k .args .m) (k .pre .0)), refl, putting-start)
+    let k = c .before .before .before .before .before .before .before .before in (
+      ticksIn (k .args .s .now),
+      rw (c .start .ensures) (going-start (k .args .s .now) (k .args .m) (k .pre .0)),
+      refl,
+      putting-start,
+    )
 
 on-requires : tie.Need-on-requires Inv-loop μ-loop
 on-requires c κs =
@@ -108,7 +119,8 @@ returns c =
     let k = c .before .before in
     let args = k .before .before .before .before .before .before .before .before .before .args in
     let none = going-end (args .s .now) (k .loop .run) (k .loop .inv .0) (k .loop .inv .1) (c .if1 .left) in
-    rw (run-split (args .m) (ticksIn (args .s .now)) _ (k .before .start .ensures)) (put-then (head k) (putting-end (k .loop .inv .3) none))
+    rw (run-split (args .m) (ticksIn (args .s .now)) _ (k .before .start .ensures))
+    (put-then (head k) (putting-end (k .loop .inv .3) none))
 
 pub put-run-spec : {M : Type 1} → statement M
 put-run-spec =

@@ -15,23 +15,27 @@ use Rattle.runs.proofs.run_room.Statement.{statement}
 use Rattle.runs.proofs.run_room.Tie as tie
 
 abbrev Inv-loop : tie.InvT-loop
-Inv-loop s room left₀ run₀ left run = (rows : List (List ℕ)) × Going s run rows × (roomFor (toCome run₀ (ticksIn s)) left₀ ≡ roomFor (toCome run rows) left)
+Inv-loop s room left₀ run₀ left run = (rows : List (List ℕ)) × Going s run rows
+    × (roomFor (toCome run₀ (ticksIn s)) left₀ ≡ roomFor (toCome run rows) left)
 
 abbrev μ-loop : tie.MeasureT-loop
 μ-loop s room left₀ run₀ left run = length s - run .at
 
 gone : (c : tie.After-on Inv-loop μ-loop) →
     let k = c .before .before .before in
-    Gone (k .before .before .before .before .before .before .before .args .s .now) (k .loop .run) (k .loop .inv .0) (c .on .result)
+    Gone (k .before .before .before .before .before .before .before .args .s .now) (k .loop .run)
+    (k .loop .inv .0) (c .on .result)
 gone c =
     let k = c .before .before .before in
-    going-on (k .before .before .before .before .before .before .before .args .s .now) (k .loop .run) (k .loop .inv .0) (c .on .result) (k .loop .inv .1) (c .before .if2 .taken) (c .on .ensures)
+    going-on (k .before .before .before .before .before .before .before .args .s .now) (k .loop .run) (k .loop .inv .0)
+    (c .on .result) (k .loop .inv .1) (c .before .if2 .taken) (c .on .ensures)
 
 -- the room for the whole text is that for the lines, behind the header
 whole : (c : tie.At-loop Inv-loop μ-loop) →
     let k = c .before in
     let args = k .before .before .before .before .before .before .args in
-    roomFor (runText (args .m) (ticksIn (args .s .now))) (args .room) ≡ roomFor (toCome (k .start .result) (ticksIn (args .s .now))) (k .before .before .before .word-room .result .left)
+    roomFor (runText (args .m) (ticksIn (args .s .now))) (args .room)
+    ≡ roomFor (toCome (k .start .result) (ticksIn (args .s .now))) (k .before .before .before .word-room .result .left)
 whole c =
     let k = c .before in
     let args = k .before .before .before .before .before .before .args in
@@ -47,7 +51,8 @@ word-room-requires c κs = search needs
 returns : tie.Need-returns Inv-loop μ-loop
 returns c =
     let args = c .before .before .before .before .before .args in
-    rw (run-split (args .m) (ticksIn (args .s .now)) (runStart (args .m)) refl) (room-halt _ _ _ _ (c .before .before .word-room .ensures) (not-true _ (c .if1 .taken)))
+    rw (run-split (args .m) (ticksIn (args .s .now)) (runStart (args .m)) refl)
+    (room-halt _ _ _ _ (c .before .before .word-room .ensures) (not-true _ (c .if1 .taken)))
 
 start-requires : tie.Need-start-requires Inv-loop μ-loop
 start-requires c κs = search needs

@@ -17,13 +17,15 @@ use Rattle.runs.proofs.ticks.Tie as tie
 tries : (c : tie.Else2) →
     let t = c .before .before in
     let args = t .before .before .before .before .before .before .before .before .before .args in
-    ticksText (args .platform-there) (now (args .platform)) (args .tasks-there) (now (args .tasks)) (args .ticks-there) (now (args .ticks))
+    ticksText (args .platform-there) (now (args .platform)) (args .tasks-there) (now (args .tasks))
+    (args .ticks-there) (now (args .ticks))
     ≡ ran (taken ticksForm (args .ticks-there) (now (args .ticks))) (t .take-tasks .result .table)
 unfolding ticksText
 tries c =
     let t = c .before .before in
     let e = t .before .before in
-    table-good refusedText (ran (taken ticksForm _ _)) _ (e .if1 .left) _ (taken platformForm _ _) (taken tasksForm _ _) (e .before .before .take-platform .ensures) (t .take-tasks .ensures) (c .if2 .left)
+    table-good refusedText (ran (taken ticksForm _ _)) _ (e .if1 .left) _ (taken platformForm _ _) (taken tasksForm _ _)
+    (e .before .before .take-platform .ensures) (t .take-tasks .ensures) (c .if2 .left)
 
 take-platform-requires : tie.Need-take-platform-requires
 take-platform-requires c κs = search needs
@@ -38,7 +40,8 @@ returns : tie.Need-returns
 unfolding ticksText
 returns c =
     let k = c .before .before .before .before .before in
-    rw (platform-bad refusedText (ran (taken ticksForm _ _)) _ _ _ (k .before .before .take-platform .ensures) (k .if1 .taken)) (c .before .before .write-refused .ensures)
+    rw (platform-bad refusedText (ran (taken ticksForm _ _)) _ _ _ (k .before .before .take-platform .ensures)
+    (k .if1 .taken)) (c .before .before .write-refused .ensures)
 
 take-tasks-requires : tie.Need-take-tasks-requires
 take-tasks-requires c κs = search needs
@@ -55,7 +58,9 @@ returns-2 c =
     let k = c .before .before .before .before .before in
     let t = k .before .before in
     let e = t .before .before in
-    rw (table-bad refusedText (ran (taken ticksForm _ _)) _ (e .if1 .left) _ _ _ (e .before .before .take-platform .ensures) (t .take-tasks .ensures) (k .if2 .taken)) (c .before .before .write-refused2 .ensures)
+    rw (table-bad refusedText (ran (taken ticksForm _ _)) _ (e .if1 .left) _ _ _
+    (e .before .before .take-platform .ensures) (t .take-tasks .ensures) (k .if2 .taken))
+    (c .before .before .write-refused2 .ensures)
 
 take-ticks-requires : tie.Need-take-ticks-requires
 take-ticks-requires c κs = search needs
@@ -70,7 +75,8 @@ returns-3 : tie.Need-returns-3
 returns-3 c =
     let k = c .before .before .before .before .before in
     let n = k .before .before in
-    rw (tries (n .before) ∙ ticks-bad (taken ticksForm _ _) (n .take-ticks .result) _ (n .take-ticks .ensures) (k .if3 .taken)) (c .before .before .write-refused3 .ensures)
+    rw (tries (n .before) ∙ ticks-bad (taken ticksForm _ _) (n .take-ticks .result) _ (n .take-ticks .ensures)
+    (k .if3 .taken)) (c .before .before .write-refused3 .ensures)
 
 write-ran-requires : tie.Need-write-ran-requires
 write-ran-requires c κs =
@@ -85,7 +91,8 @@ returns-4 c =
     let e = c .before .before .before .before .before in
     let n = e .before .before in
     let t = n .before .before .before in
-    rw (tries (n .before) ∙ ap (λ (x : Answer (List (List ℕ))). ran x (t .take-tasks .result .table)) (ticks-good _ _ _ (n .take-ticks .ensures) (e .if3 .left) .0)) (c .before .before .write-ran .ensures)
+    rw (tries (n .before) ∙ ap (λ (x : Answer (List (List ℕ))). ran x (t .take-tasks .result .table))
+    (ticks-good _ _ _ (n .take-ticks .ensures) (e .if3 .left) .0)) (c .before .before .write-ran .ensures)
 
 pub ticks-spec : {M : Type 1} → statement M
 ticks-spec =

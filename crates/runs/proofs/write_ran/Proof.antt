@@ -16,7 +16,8 @@ returns : tie.Need-returns
 returns c =
     let k = c .before .before .before .before in
     let r = k .before .before in
-    rw (ran-refused _ _ (r .refused .ensures) _ _ (r .before .before .before .pre .0) (k .if1 .taken)) (c .before .before .write-refused .ensures)
+    rw (ran-refused _ _ (r .refused .ensures) _ _ (r .before .before .before .pre .0) (k .if1 .taken))
+    (c .before .before .write-refused .ensures)
 
 fresh-requires : tie.Need-fresh-requires
 fresh-requires c κs = search needs
@@ -31,7 +32,8 @@ returns-2 : tie.Need-returns-2
 returns-2 c =
     let k = c .before .before .before .before in
     let r = k .before .before .before in
-    rw (ran-good _ _ (r .refused .ensures) _ _ (r .before .before .before .pre .0) (k .before .if1 .left) _ (k .fresh .ensures)) (c .before .before .write-run .ensures)
+    rw (ran-good _ _ (r .refused .ensures) _ _ (r .before .before .before .pre .0) (k .before .if1 .left) _
+    (k .fresh .ensures)) (c .before .before .write-run .ensures)
 
 pub write-ran-spec : {M : Type 1} → statement M
 write-ran-spec =

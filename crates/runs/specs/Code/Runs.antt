@@ -1,4 +1,5 @@
--- A run on its way through a ticks text, as the code's loops hold it. No statement of a public function rests on these definitions.
+-- A run on its way through a ticks text, as the code's loops hold it. No statement of a public function rests on these
+-- definitions.
 use Prim.Native.Nat.{ℕ}
 use mathlib.Core.Path.{_≡_}
 use mathlib.Core.List.{List, [], _∷_}

@@ -3,7 +3,8 @@ use mathlib.Core.Path.{_≡_, _∙_, refl}
 use native.Mathlib.Nat.{le-refl, le-trans}
 use native.Mathlib.Omega.{arith}
 use Rattle.sets.specs.Code.Less.{less}
-use Rattle.sets.proofs.Lowest.{leaves, leaves-step, less-le, leaves-four, less-four, leaves-zero, taken, taken-all}
+use Rattle.sets.proofs.Lowest.{leaves, leaves-step, less-le, leaves-four, less-four, leaves-zero, taken}
+use Rattle.sets.proofs.Lowest.{taken-all}
 use borrow.Author.Needs.{needs}
 use Rattle.sets.proofs.choose.Statement.{statement}
 use Rattle.sets.proofs.choose.Tie as tie
@@ -49,8 +50,16 @@ loop-again c =
     let l = c .before .before .before .before .before .before in
     let x = l .loop .rest in
     let is : c .less4 .result ≡ less (less (less (less x))) =
-    rw (c .less4 .ensures, c .before .less3 .ensures, c .before .before .less2 .ensures, c .before .before .before .less .ensures) in
-    rw is (le-trans (less-four x) (l .loop .inv .0), l .loop .inv .1 ∙ leaves-four x (l .loop .left) (search needs) (search needs))
+    rw (
+      c .less4 .ensures,
+      c .before .less3 .ensures,
+      c .before .before .less2 .ensures,
+      c .before .before .before .less .ensures,
+    ) in
+    rw is (
+      le-trans (less-four x) (l .loop .inv .0),
+      l .loop .inv .1 ∙ leaves-four x (l .loop .left) (search needs) (search needs),
+    )
 
 loop2-holds : tie.Need-loop2-holds Inv-loop μ-loop Inv-loop2 μ-loop2
 loop2-holds c = c .before .loop .inv
@@ -68,7 +77,10 @@ loop2-again : tie.Need-loop2-again Inv-loop μ-loop Inv-loop2 μ-loop2
 loop2-again c =
     let l = c .before .before in
     let x = l .loop2 .rest in
-    rw (c .less5 .ensures) (le-trans (less-le x) (l .loop2 .inv .0), l .loop2 .inv .1 ∙ leaves-step x (l .loop2 .left) (search needs) (search needs))
+    rw (c .less5 .ensures) (
+      le-trans (less-le x) (l .loop2 .inv .0),
+      l .loop2 .inv .1 ∙ leaves-step x (l .loop2 .left) (search needs) (search needs),
+    )
 
 sub-result : tie.Need-sub-result Inv-loop μ-loop Inv-loop2 μ-loop2
 sub-result c = search needs
@@ -78,7 +90,8 @@ returns-2 c =
     let l = c .before in
     let s = l .before .before .before .args in
     let ended : l .loop2 .left ≡ 0 = omega arith in
-    let left : leaves (s .idle) (s .a .0) ≡ l .loop2 .rest = l .loop2 .inv .1 ∙ rw ended (leaves-zero (l .loop2 .rest)) in
+    let left : leaves (s .idle) (s .a .0) ≡ l .loop2 .rest =
+    l .loop2 .inv .1 ∙ rw ended (leaves-zero (l .loop2 .rest)) in
     rw (← left) (taken (s .idle) (s .a .0))
 
 pub choose-spec : {M : Type 1} → statement M

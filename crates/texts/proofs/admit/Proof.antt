@@ -15,12 +15,14 @@ use Rattle.texts.proofs.admit.Tie as tie
 judges : (c : tie.After-full-answer) →
     let t = c .before .before .before .before in
     let args = t .before .before .before .before .before .before .before .before .args in
-    admitText (args .platform-there) (now (args .platform)) (args .tasks-there) (now (args .tasks)) ≡ answerText (t .take-tasks .result .table .n) (c .full-answer .result)
+    admitText (args .platform-there) (now (args .platform)) (args .tasks-there) (now (args .tasks))
+    ≡ answerText (t .take-tasks .result .table .n) (c .full-answer .result)
 unfolding admitText
 judges c =
     let t = c .before .before .before .before in
     let e = t .before .before in
-    table-good refusedText judged _ (e .if1 .left) _ (taken platformForm _ _) (taken tasksForm _ _) (e .before .before .take-platform .ensures) (t .take-tasks .ensures) (c .before .before .if2 .left)
+    table-good refusedText judged _ (e .if1 .left) _ (taken platformForm _ _) (taken tasksForm _ _)
+    (e .before .before .take-platform .ensures) (t .take-tasks .ensures) (c .before .before .if2 .left)
     ∙ ap (answerText (t .take-tasks .result .table .n)) (sym (c .full-answer .ensures))
 
 take-platform-requires : tie.Need-take-platform-requires
@@ -36,7 +38,8 @@ returns : tie.Need-returns
 unfolding admitText
 returns c =
     let k = c .before .before .before .before .before in
-    rw (platform-bad refusedText judged _ _ _ (k .before .before .take-platform .ensures) (k .if1 .taken)) (c .before .before .write-refused .ensures)
+    rw (platform-bad refusedText judged _ _ _ (k .before .before .take-platform .ensures) (k .if1 .taken))
+    (c .before .before .write-refused .ensures)
 
 take-tasks-requires : tie.Need-take-tasks-requires
 take-tasks-requires c κs = search needs
@@ -53,7 +56,8 @@ returns-2 c =
     let k = c .before .before .before .before .before in
     let t = k .before .before in
     let e = t .before .before in
-    rw (table-bad refusedText judged _ (e .if1 .left) _ _ _ (e .before .before .take-platform .ensures) (t .take-tasks .ensures) (k .if2 .taken)) (c .before .before .write-refused2 .ensures)
+    rw (table-bad refusedText judged _ (e .if1 .left) _ _ _ (e .before .before .take-platform .ensures)
+    (t .take-tasks .ensures) (k .if2 .taken)) (c .before .before .write-refused2 .ensures)
 
 full-answer-requires : tie.Need-full-answer-requires
 full-answer-requires c κs = search needs
@@ -67,7 +71,8 @@ same-length-3 c = search needs
 returns-3 : tie.Need-returns-3
 returns-3 c =
     let k = c .before .before .before .before .before in
-    rw (judges (k .before .before) ∙ answer-refused _ (k .before .before .full-answer .result) (k .if3 .taken)) (c .before .before .write-refused3 .ensures)
+    rw (judges (k .before .before) ∙ answer-refused _ (k .before .before .full-answer .result) (k .if3 .taken))
+    (c .before .before .write-refused3 .ensures)
 
 write-margins-requires : tie.Need-write-margins-requires
 write-margins-requires c κs = search needs
@@ -78,7 +83,8 @@ same-length-4 c = search needs
 returns-4 : tie.Need-returns-4
 returns-4 c =
     let k = c .before .before .before .before .before in
-    rw (judges (k .before .before) ∙ answer-margins _ (k .before .before .full-answer .result) (k .if3 .left)) (c .before .before .write-margins .ensures)
+    rw (judges (k .before .before) ∙ answer-margins _ (k .before .before .full-answer .result) (k .if3 .left))
+    (c .before .before .write-margins .ensures)
 
 pub admit-spec : {M : Type 1} → statement M
 admit-spec =

@@ -22,20 +22,23 @@ unfolding verdict
 judges c =
     let t = c .before .before .before .before in
     let e = t .before .before in
-    table-good numberOf quickNumber _ (e .if1 .left) _ (read platformForm _) (read tasksForm _) (e .before .before .read-platform .ensures) (t .read-tasks .ensures) (c .before .before .if2 .left)
+    table-good numberOf quickNumber _ (e .if1 .left) _ (read platformForm _) (read tasksForm _)
+    (e .before .before .read-platform .ensures) (t .read-tasks .ensures) (c .before .before .if2 .left)
     ∙ ap numbered (sym (c .quick-answer .ensures))
 
 small : (c : tie.After-quick-answer) → c .quick-answer .result .first ≤ mostTasks
 small c =
     let t = c .before .before .before .before in
-    rw (c .quick-answer .ensures) (first-le _ (rows-32 _ (read tasksForm _) (t .read-tasks .result) (t .read-tasks .ensures)))
+    rw (c .quick-answer .ensures)
+    (first-le _ (rows-32 _ (read tasksForm _) (t .read-tasks .result) (t .read-tasks .ensures)))
 
 read-platform-requires : tie.Need-read-platform-requires
 read-platform-requires c κs = search needs
 
 returns : tie.Need-returns
 unfolding verdict
-returns c = sym (platform-bad numberOf quickNumber (read platformForm _) (read tasksForm _) (c .before .before .read-platform .result) (c .before .before .read-platform .ensures) (c .if1 .taken))
+returns c = sym (platform-bad numberOf quickNumber (read platformForm _) (read tasksForm _)
+    (c .before .before .read-platform .result) (c .before .before .read-platform .ensures) (c .if1 .taken))
 
 read-tasks-requires : tie.Need-read-tasks-requires
 read-tasks-requires c κs = search needs
@@ -45,18 +48,21 @@ unfolding verdict
 returns-2 c =
     let t = c .before .before in
     let e = t .before .before in
-    sym (table-bad numberOf quickNumber _ (e .if1 .left) _ (read platformForm _) (read tasksForm _) (e .before .before .read-platform .ensures) (t .read-tasks .ensures) (c .if2 .taken))
+    sym (table-bad numberOf quickNumber _ (e .if1 .left) _ (read platformForm _) (read tasksForm _)
+    (e .before .before .read-platform .ensures) (t .read-tasks .ensures) (c .if2 .taken))
 
 quick-answer-requires : tie.Need-quick-answer-requires
 quick-answer-requires c κs = search needs
 
 returns-3 : tie.Need-returns-3
-returns-3 c = sym (judges (c .before .before) ∙ numbered-refused (c .before .before .quick-answer .result) (c .if3 .taken))
+returns-3 c =
+    sym (judges (c .before .before) ∙ numbered-refused (c .before .before .quick-answer .result) (c .if3 .taken))
 
 returns-4 : tie.Need-returns-4
 returns-4 c =
     let k = c .before .before in
-    sym (judges (k .before .before) ∙ numbered-admitted (k .before .before .quick-answer .result) (k .if3 .left) (c .if4 .taken))
+    sym (judges (k .before .before)
+    ∙ numbered-admitted (k .before .before .quick-answer .result) (k .if3 .left) (c .if4 .taken))
 
 cast-result : tie.Need-cast-result
 cast-result c =
@@ -71,7 +77,8 @@ add-result c =
 returns-5 : tie.Need-returns-5
 returns-5 c =
     let k = c .before .before .before in
-    sym (judges (k .before .before) ∙ numbered-failing (k .before .before .quick-answer .result) (k .if3 .left) (c .before .if4 .left))
+    sym (judges (k .before .before)
+    ∙ numbered-failing (k .before .before .quick-answer .result) (k .if3 .left) (c .before .if4 .left))
 
 pub quick-verdict-spec : {M : Type 1} → statement M
 quick-verdict-spec =

@@ -17,7 +17,8 @@ returns : tie.Need-returns
 returns c =
     let k = c .before .before in
     let args = k .before .before .args in
-    c .bad .ensures ∙ ap (tableRead (args .platform)) (sym (taken-not tasksForm (args .there) (args .s .now) _ (k .takes .ensures) (not-true _ (c .before .if1 .taken))))
+    c .bad .ensures ∙ ap (tableRead (args .platform))
+    (sym (taken-not tasksForm (args .there) (args .s .now) _ (k .takes .ensures) (not-true _ (c .before .if1 .taken))))
 
 read-tasks-requires : tie.Need-read-tasks-requires
 read-tasks-requires c κs = search needs
@@ -26,7 +27,8 @@ returns-2 : tie.Need-returns-2
 returns-2 c =
     let k = c .before .before in
     let args = k .before .before .args in
-    c .read-tasks .ensures ∙ ap (tableRead (args .platform)) (sym (taken-read tasksForm (args .there) (args .s .now) _ (k .takes .ensures) (not-false _ (c .before .if1 .left))))
+    c .read-tasks .ensures ∙ ap (tableRead (args .platform))
+    (sym (taken-read tasksForm (args .there) (args .s .now) _ (k .takes .ensures) (not-false _ (c .before .if1 .left))))
 
 pub take-tasks-spec : {M : Type 1} → statement M
 take-tasks-spec = tie.close (tie.spec takes-requires bad-requires returns read-tasks-requires returns-2)

@@ -17,7 +17,8 @@ returns : tie.Need-returns
 returns c =
     let k = c .before .before in
     let args = k .before .before .args in
-    c .bad .ensures ∙ ap ticksRead (sym (taken-not ticksForm (args .there) (args .s .now) _ (k .takes .ensures) (not-true _ (c .before .if1 .taken))))
+    c .bad .ensures ∙ ap ticksRead
+    (sym (taken-not ticksForm (args .there) (args .s .now) _ (k .takes .ensures) (not-true _ (c .before .if1 .taken))))
 
 read-ticks-requires : tie.Need-read-ticks-requires
 read-ticks-requires c κs = search needs
@@ -26,7 +27,8 @@ returns-2 : tie.Need-returns-2
 returns-2 c =
     let k = c .before .before in
     let args = k .before .before .args in
-    c .read-ticks .ensures ∙ ap ticksRead (sym (taken-read ticksForm (args .there) (args .s .now) _ (k .takes .ensures) (not-false _ (c .before .if1 .left))))
+    c .read-ticks .ensures ∙ ap ticksRead
+    (sym (taken-read ticksForm (args .there) (args .s .now) _ (k .takes .ensures) (not-false _ (c .before .if1 .left))))
 
 pub take-ticks-spec : {M : Type 1} → statement M
 take-ticks-spec = tie.close (tie.spec takes-requires bad-requires returns read-ticks-requires returns-2)

@@ -4,7 +4,9 @@ use lib.ListN.{length}
 use Rattle.maths.proofs.Lists.{len-mapped}
 use Rattle.table.specs.Limits.{mostTasks}
 use Rattle.machine.proofs.Jobs.{machineOf}
-use Rattle.ticking.proofs.TickLoops.{Judging, judging-none, judging-turn, judging-more, Ending, ending-none, ending-more, ending-few, Moving, moving-none, moving-turn, moving-more, moving-ends}
+use Rattle.ticking.proofs.TickLoops.{Judging, judging-none, judging-turn, judging-more, Ending, ending-none}
+use Rattle.ticking.proofs.TickLoops.{ending-more, ending-few, Moving, moving-none, moving-turn, moving-more}
+use Rattle.ticking.proofs.TickLoops.{moving-ends}
 use borrow.Author.Needs.{needs}
 use Rattle.ticking.proofs.tick.Statement.{statement}
 use Rattle.ticking.proofs.tick.Tie as tie
@@ -22,12 +24,14 @@ abbrev μ-loop2 : tie.MeasureT-loop2
 μ-loop2 released finished t jobs n look k₀ past₀ k past = mostTasks - k
 
 abbrev Inv-loop3 : tie.InvT-loop3
-Inv-loop3 released finished t jobs₀ n k past refused moved walk₀ i₀ jobs walk i = Moving (machineOf t jobs₀) released finished refused moved jobs walk i
+Inv-loop3 released finished t jobs₀ n k past refused moved walk₀ i₀ jobs walk i =
+    Moving (machineOf t jobs₀) released finished refused moved jobs walk i
 
 abbrev μ-loop3 : tie.MeasureT-loop3
 μ-loop3 released finished t jobs₀ n k past refused moved walk₀ i₀ jobs walk i = moved - i
 
-rows-32 : (c : tie.Start Inv-loop μ-loop Inv-loop2 μ-loop2 Inv-loop3 μ-loop3) → length (c .args .m .table .rows) ≡ mostTasks
+rows-32 : (c : tie.Start Inv-loop μ-loop Inv-loop2 μ-loop2 Inv-loop3 μ-loop3)
+    → length (c .args .m .table .rows) ≡ mostTasks
 rows-32 c = search (len-mapped, needs)
 
 jobs-32 : (c : tie.Start Inv-loop μ-loop Inv-loop2 μ-loop2 Inv-loop3 μ-loop3) → length (c .args .m .jobs) ≡ mostTasks
@@ -111,7 +115,8 @@ marks-requires c κs = search needs
 refusal-of-requires : tie.Need-refusal-of-requires Inv-loop μ-loop Inv-loop2 μ-loop2 Inv-loop3 μ-loop3
 refusal-of-requires c κs =
     let e = c .before .before .before in
-    ending-few _ _ _ (rows-32 (e .before .before .before .before .before .before .before .before)) _ _ _ _ (e .loop2 .inv) (search needs) (c .before .marks .result) (c .before .marks .ensures)
+    ending-few _ _ _ (rows-32 (e .before .before .before .before .before .before .before .before)) _ _ _ _
+    (e .loop2 .inv) (search needs) (c .before .marks .result) (c .before .marks .ensures)
 
 accepted-tasks-requires : tie.Need-accepted-tasks-requires Inv-loop μ-loop Inv-loop2 μ-loop2 Inv-loop3 μ-loop3
 accepted-tasks-requires c κs = search needs
@@ -124,7 +129,9 @@ loop3-holds c =
     let e = c .before .before .before .before .before in
     let l = e .before .before in
     let s = l .before .before .before .before .before .before .before .before in
-    moving-none _ _ _ (rows-32 s) _ _ _ _ (l .loop2 .inv) (search needs) (e .marks .result) (e .marks .ensures) (jobs-32 s) _ _ _ (c .before .before .before .refusal-of .ensures) (c .before .before .accepted-tasks .ensures) (c .start3 .ensures)
+    moving-none _ _ _ (rows-32 s) _ _ _ _ (l .loop2 .inv) (search needs) (e .marks .result)
+    (e .marks .ensures) (jobs-32 s) _ _ _ (c .before .before .before .refusal-of .ensures)
+    (c .before .before .accepted-tasks .ensures) (c .start3 .ensures)
 
 add-with-2 : tie.Need-add-with-2 Inv-loop μ-loop Inv-loop2 μ-loop2 Inv-loop3 μ-loop3
 add-with-2 c = search needs
@@ -157,13 +164,15 @@ loop3-less : tie.Need-loop3-less Inv-loop μ-loop Inv-loop2 μ-loop2 Inv-loop3 �
 loop3-less c = search needs
 
 loop3-again : tie.Need-loop3-again Inv-loop μ-loop Inv-loop2 μ-loop2 Inv-loop3 μ-loop3
-loop3-again c = moving-more _ _ _ _ _ _ _ _ (c .before .before .before .before .before .loop3 .inv) (search needs) (c .before .with3 .result) (c .before .with3 .ensures)
+loop3-again c = moving-more _ _ _ _ _ _ _ _ (c .before .before .before .before .before .loop3 .inv) (search needs)
+    (c .before .with3 .result) (c .before .with3 .ensures)
 
 accepted-set-requires : tie.Need-accepted-set-requires Inv-loop μ-loop Inv-loop2 μ-loop2 Inv-loop3 μ-loop3
 accepted-set-requires c κs = search needs
 
 returns : tie.Need-returns Inv-loop μ-loop Inv-loop2 μ-loop2 Inv-loop3 μ-loop3
-returns c = moving-ends _ _ _ _ _ _ _ _ (c .before .before .loop3 .inv) (search needs) (c .accepted-set .result) (c .accepted-set .ensures)
+returns c = moving-ends _ _ _ _ _ _ _ _ (c .before .before .loop3 .inv) (search needs) (c .accepted-set .result)
+    (c .accepted-set .ensures)
 
 pub tick-spec : {M : Type 1} → statement M
 tick-spec =

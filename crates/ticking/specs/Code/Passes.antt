@@ -1,5 +1,6 @@
--- What the code of a tick does with one task, in its first pass, which judges, and in its second, which moves. No statement rests on
--- these definitions: they cut the proof that the passes come to `tick` into the parts that the source has.
+-- What the code of a tick does with one task, in its first pass, which judges, and in its second, which moves. No
+-- statement rests on these definitions: they cut the proof that the passes come to `tick` into the parts that the
+-- source has.
 use Prim.Native.Nat.{ℕ, _+_, _-_, min}
 use mathlib.Core.Bool.{Bool, true, false, cond, not, _&&_}
 use lib.Bits.{bitOr}
@@ -57,15 +58,31 @@ refuses number row = record { number = number; row = row }
 -- refusal `number` of task k, if it is not 0, after what was found of the tasks before: the lower number goes first
 abbrev pub firstOf : Refusal → ℕ → ℕ → Refusal
 firstOf r number k =
-    cond (eqb number 0) r (cond (eqb (r .number) 0) (refuses number k) (cond (leb (r .number) number) r (refuses number k)))
+    cond (eqb number 0) r
+    (cond (eqb (r .number) 0) (refuses number k) (cond (leb (r .number) number) r (refuses number k)))
 
--- the first pass: what it starts from, and one task of the table more; a state that is not good is not looked at further
+-- the first pass: what it starts from, and one task of the table more; a state that is not good is not looked at
+-- further
 abbrev pub lookStart : Table → Look
-lookStart t = record { good = eqb (sizesRefusal t) 0; refused = refuses 0 0; running = record { 0 = 0 }; held = 0; stays = record { 0 = 0 }; busy = 0 }
+lookStart t = record {
+  good = eqb (sizesRefusal t) 0;
+  refused = refuses 0 0;
+  running = record { 0 = 0 };
+  held = 0;
+  stays = record { 0 = 0 };
+  busy = 0;
+}
 
 abbrev pub lookBad : Look → Look
 lookBad l =
-    record { good = false; refused = l .refused; running = l .running; held = l .held; stays = l .stays; busy = l .busy }
+    record {
+      good = false;
+      refused = l .refused;
+      running = l .running;
+      held = l .held;
+      stays = l .stays;
+      busy = l .busy;
+    }
 
 abbrev pub admits : ℕ → Task → Job → Look → Bool
 admits p τ j l = l .good && eqb (rowRefusal p τ) 0 && goodJob p τ j && disjoint (l .held) (j .held)
@@ -94,7 +111,8 @@ abbrev pub pastStart : Past
 pastStart = record { row = noTask; job = noJob }
 
 abbrev pub orTask : Task → Task → Task
-orTask a b = record { d = bitOr (D a) (D b); t = bitOr (T a) (T b); c = bitOr (C a) (C b); a = record { 0 = bitOr (A a) (A b) } }
+orTask a b =
+    record { d = bitOr (D a) (D b); t = bitOr (T a) (T b); c = bitOr (C a) (C b); a = record { 0 = bitOr (A a) (A b) } }
 
 abbrev pub orJob : Job → Job → Job
 orJob a b =
@@ -121,7 +139,8 @@ firstAbove x n = lowest mostTasks (λ k. ltb n k && hasTask x k)
 
 unfoldable pub foundRefusal : Look → ℕ → Cores → ℕ → ℕ → Refusal
 foundRefusal l past cores n named =
-    cond (foundGood l past cores) (cond (eqb (firstAbove named n) 0) (l .refused) (refuses 9 (firstAbove named n))) (refuses 14 0)
+    cond (foundGood l past cores)
+    (cond (eqb (firstAbove named n) 0) (l .refused) (refuses 9 (firstAbove named n))) (refuses 14 0)
 
 -- the second pass: what it starts from, and one task more
 abbrev pub coresLess : Cores → Cores → Cores
@@ -167,10 +186,19 @@ walkGo k τ j late w =
 
 abbrev pub walkBy : Bool → Job → ℕ → Walk → Walk
 walkBy goes j late w =
-    record { job = j; goes = goes; cores = w .cores; idle = w .idle; partitions = w .partitions; late = late; started = w .started }
+    record {
+      job = j;
+      goes = goes;
+      cores = w .cores;
+      idle = w .idle;
+      partitions = w .partitions;
+      late = late;
+      started = w .started;
+    }
 
 abbrev pub walkBegin : ℕ → Task → Job → ℕ → Walk → Walk
-walkBegin k τ j late w = cond (tries j w) (cond (hasRoom τ w) (walkGo k τ j late w) (walkBy false j late w)) (walkBy (w .goes) j late w)
+walkBegin k τ j late w =
+    cond (tries j w) (cond (hasRoom τ w) (walkGo k τ j late w) (walkBy false j late w)) (walkBy (w .goes) j late w)
 
 abbrev pub lateWith : ℕ → Task → ℕ → Job → ℕ → ℕ
 lateWith k τ before j late = bitOr late (cond (isLate τ before j) (taskBit k) 0)

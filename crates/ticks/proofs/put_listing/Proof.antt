@@ -46,8 +46,10 @@ ticks-requires c κs = search needs
 returns : tie.Need-returns
 returns c =
     let wrote = c .ticks .ensures in
-    let inside = wrote-inside _ _ _ _ wrote in
-    (wrote-all _ _ _ _ wrote (le-trans (ticks-fit _ _ _ _ _ _) (search needs)), (inside, sym (length-take-le _ _ inside)))
+    let inside = wrote-inside _ _ _ _ wrote in (
+      wrote-all _ _ _ _ wrote (le-trans (ticks-fit _ _ _ _ _ _) (search needs)),
+      (inside, sym (length-take-le _ _ inside)),
+    )
 
 pub put-listing-spec : {M : Type 1} → statement M
 put-listing-spec =

@@ -12,7 +12,8 @@ use Rattle.writers.proofs.add_line.Tie as tie
 fits : (c : tie.Else2) →
     let args = c .before .before .before .before .before .before .args in
     args .at + length (line (now (args .numbers))) ≤ length (now (args .buf))
-fits c = room-at (now (c .before .before .before .before .before .before .args .buf)) _ _ (c .before .before .before .if1 .left) _ (c .before .before .line-room .ensures) (not-false _ (c .if2 .left))
+fits c = room-at (now (c .before .before .before .before .before .before .args .buf)) _ _
+    (c .before .before .before .if1 .left) _ (c .before .before .line-room .ensures) (not-false _ (c .if2 .left))
 
 returns : tie.Need-returns
 returns c =
@@ -28,7 +29,8 @@ line-room-requires c κs = search needs
 returns-2 : tie.Need-returns-2
 returns-2 c =
     let e = c .before .before .before in
-    added-none _ _ _ (short-at (now (e .before .before .before .args .buf)) _ _ (e .if1 .left) _ (c .before .before .line-room .ensures) (not-true _ (c .if2 .taken)))
+    added-none _ _ _ (short-at (now (e .before .before .before .args .buf)) _ _ (e .if1 .left) _
+    (c .before .before .line-room .ensures) (not-true _ (c .if2 .taken)))
 
 put-row-requires : tie.Need-put-row-requires
 put-row-requires c κs = fits (c .before)

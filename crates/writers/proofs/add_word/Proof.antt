@@ -8,8 +8,10 @@ use Rattle.writers.proofs.Added.{added-none, added-put, room-at, short-
 use Rattle.writers.proofs.add_word.Statement.{statement}
 use Rattle.writers.proofs.add_word.Tie as tie
 
-fits : (c : tie.Else2) → let args = c .before .before .before .before .before .before .args in args .at + length (now (args .word)) ≤ length (now (args .buf))
-fits c = room-at (now (c .before .before .before .before .before .before .args .buf)) _ _ (c .before .before .before .if1 .left) _ (c .before .before .word-room .ensures) (not-false _ (c .if2 .left))
+fits : (c : tie.Else2) → let args = c .before .before .before .before .before .before .args in
+    args .at + length (now (args .word)) ≤ length (now (args .buf))
+fits c = room-at (now (c .before .before .before .before .before .before .args .buf)) _ _
+    (c .before .before .before .if1 .left) _ (c .before .before .word-room .ensures) (not-false _ (c .if2 .left))
 
 returns : tie.Need-returns
 returns c =
@@ -23,7 +25,8 @@ word-room-requires : tie.Need-word-room-requires
 word-room-requires c κs = search needs
 
 returns-2 : tie.Need-returns-2
-returns-2 c = added-none _ _ _ (short-at (now (c .before .before .before .before .before .before .args .buf)) _ _ (c .before .before .before .if1 .left) _ (c .before .before .word-room .ensures) (not-true _ (c .if2 .taken)))
+returns-2 c = added-none _ _ _ (short-at (now (c .before .before .before .before .before .before .args .buf)) _ _
+    (c .before .before .before .if1 .left) _ (c .before .before .word-room .ensures) (not-true _ (c .if2 .taken)))
 
 put-word-requires : tie.Need-put-word-requires
 put-word-requires c κs = fits (c .before)

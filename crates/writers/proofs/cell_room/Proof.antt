@@ -13,7 +13,8 @@ use Rattle.writers.proofs.Rooms.{room-enough, room-short}
 use Rattle.writers.proofs.cell_room.Statement.{statement}
 use Rattle.writers.proofs.cell_room.Tie as tie
 
-size-is : (c : tie.Joined1) → c .if1 .size ≡ length (digits (c .before .before .args .n) ++ ending (c .before .before .args .left))
+size-is : (c : tie.Joined1)
+    → c .if1 .size ≡ length (digits (c .before .before .args .n) ++ ending (c .before .before .args .left))
 size-is c =
     let args = c .before .before .args in
     let w = c .before .width .ensures in

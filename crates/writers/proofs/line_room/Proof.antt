@@ -13,7 +13,8 @@ use Rattle.writers.proofs.line_room.Statement.{statement}
 use Rattle.writers.proofs.line_room.Tie as tie
 
 abbrev Inv-loop : tie.InvT-loop
-Inv-loop numbers room left₀ j₀ left j = (j ≤ length numbers) × (roomFor (line numbers) room ≡ roomFor (line (drop j numbers)) left)
+Inv-loop numbers room left₀ j₀ left j = (j ≤ length numbers)
+    × (roomFor (line numbers) room ≡ roomFor (line (drop j numbers)) left)
 
 abbrev μ-loop : tie.MeasureT-loop
 μ-loop numbers room left₀ j₀ left j = length numbers - j
@@ -41,7 +42,8 @@ returns c =
     let k = c .before .before .before .before .before in
     let numbers = k .before .before .args .numbers .now in
     let x = c .before .before .cell-room in
-    sym (k .loop .inv .1 ∙ line-short numbers (k .loop .j) (omega arith) (k .loop .left) _ (x .ensures) (not-true _ (c .if1 .taken)))
+    sym (k .loop .inv .1
+    ∙ line-short numbers (k .loop .j) (omega arith) (k .loop .left) _ (x .ensures) (not-true _ (c .if1 .taken)))
 
 add-j : tie.Need-add-j Inv-loop μ-loop
 add-j c = search needs
@@ -55,7 +57,8 @@ loop-again c =
     let numbers = k .before .before .args .numbers .now in
     let x = c .before .before .cell-room in (
       search needs,
-      k .loop .inv .1 ∙ line-on numbers (k .loop .j) (omega arith) (k .loop .left) _ (x .ensures) (not-false _ (c .if1 .left)),
+      k .loop .inv .1
+          ∙ line-on numbers (k .loop .j) (omega arith) (k .loop .left) _ (x .ensures) (not-false _ (c .if1 .left)),
     )
 
 returns-2 : tie.Need-returns-2 Inv-loop μ-loop

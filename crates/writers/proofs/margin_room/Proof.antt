@@ -32,7 +32,8 @@ returns-3 c =
     let j = c .before .before .before in
     let k = j .before .before .before in
     room-halt _ _ _ _ (c .before .before .cell-room2 .ensures) (not-true _ (c .if3 .taken))
-    ∙ sym (room-more _ _ _ _ (k .before .before .cell-room .ensures) (not-false _ (k .if1 .left)) ∙ room-more _ _ _ _ (j .before .before .sign-room .ensures) (not-false _ (j .if2 .left)))
+    ∙ sym (room-more _ _ _ _ (k .before .before .cell-room .ensures) (not-false _ (k .if1 .left))
+    ∙ room-more _ _ _ _ (j .before .before .sign-room .ensures) (not-false _ (j .if2 .left)))
 
 cell-room-requires-3 : tie.Need-cell-room-requires-3
 cell-room-requires-3 c κs = search needs

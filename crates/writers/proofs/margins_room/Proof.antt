@@ -26,7 +26,8 @@ use Rattle.writers.proofs.margins_room.Tie as tie
 -- The loop's invariant: the room that is left, for tasks i + 1 and on.
 
 abbrev Inv-loop : tie.InvT-loop
-Inv-loop n room margins left₀ i₀ left i = (i ≤ n) × (roomFor (marginsText n margins) room ≡ roomFor (marginsFrom margins n i) left)
+Inv-loop n room margins left₀ i₀ left i = (i ≤ n)
+    × (roomFor (marginsText n margins) room ≡ roomFor (marginsFrom margins n i) left)
 
 abbrev μ-loop : tie.MeasureT-loop
 μ-loop n room margins left₀ i₀ left i = n - i
@@ -34,13 +35,15 @@ abbrev μ-loop : tie.MeasureT-loop
 more : (c : tie.After-margin-of Inv-loop μ-loop) →
     let k = c .before .before .before in
     let args = k .before .before .before .before .before .args in
-    marginsFrom (args .t2) (args .n) (k .loop .i) ≡ marginRow (k .loop .i + 1) (c .margin-of .result) ++ marginsFrom (args .t2) (args .n) (k .loop .i + 1)
+    marginsFrom (args .t2) (args .n) (k .loop .i)
+    ≡ marginRow (k .loop .i + 1) (c .margin-of .result) ++ marginsFrom (args .t2) (args .n) (k .loop .i + 1)
 more c =
     let k = c .before .before .before in
     let args = k .before .before .before .before .before .args in
     let size : length (args .t2) ≡ 32 = search needs in
     let fits : SFits w64 (getD (args .t2) (k .loop .i) (pos 0)) = search needs in
-    rw (c .margin-of .ensures, toZ-ofZ fits) (margins-more (args .t2) (args .n) (k .loop .i) (c .before .before .loop-test .taken) (omega arith))
+    rw (c .margin-of .ensures, toZ-ofZ fits)
+    (margins-more (args .t2) (args .n) (k .loop .i) (c .before .before .loop-test .taken) (omega arith))
 
 slice-aggregate-word-room : tie.Need-slice-aggregate-word-room Inv-loop μ-loop
 slice-aggregate-word-room c = search needs
@@ -51,7 +54,8 @@ word-room-requires c κs = search needs
 returns : tie.Need-returns Inv-loop μ-loop
 returns c =
     let s = c .before .before .before .before in
-    rw (margins-split (s .args .t2) (s .args .n)) (room-halt _ _ _ _ (c .before .before .word-room .ensures) (not-true _ (c .if1 .taken)))
+    rw (margins-split (s .args .t2) (s .args .n))
+    (room-halt _ _ _ _ (c .before .before .word-room .ensures) (not-true _ (c .if1 .taken)))
 
 loop-holds : tie.Need-loop-holds Inv-loop μ-loop
 loop-holds c =

@@ -15,7 +15,8 @@ line-room-requires : tie.Need-line-room-requires
 line-room-requires c κs = search needs
 
 returns-2 : tie.Need-returns-2
-returns-2 c = c .line-room .ensures ∙ sym (room-more _ _ _ _ (c .before .before .before .word-room .ensures) (not-false _ (c .before .if1 .left)))
+returns-2 c = c .line-room .ensures
+    ∙ sym (room-more _ _ _ _ (c .before .before .before .word-room .ensures) (not-false _ (c .before .if1 .left)))
 
 pub one-room-spec : {M : Type 1} → statement M
 one-room-spec = tie.close (tie.spec word-room-requires returns line-room-requires returns-2)

@@ -32,7 +32,8 @@ same-length c = search needs
 returns : tie.Need-returns
 returns c =
     let k = c .before .before .before .before .before in
-    rw (ap ending (k .if1 .taken)) (put-then (k .before .before .before .put-number .ensures) (c .before .before .put-word .ensures))
+    rw (ap ending (k .if1 .taken))
+    (put-then (k .before .before .before .put-number .ensures) (c .before .before .put-word .ensures))
 
 slice-aggregate-put-word-2 : tie.Need-slice-aggregate-put-word-2
 slice-aggregate-put-word-2 c = search needs
@@ -49,7 +50,8 @@ same-length-2 c = search needs
 returns-2 : tie.Need-returns-2
 returns-2 c =
     let k = c .before .before .before .before .before in
-    rw (ending-more (k .before .before .before .before .before .before .args .left) (k .if1 .left)) (put-then (k .before .before .before .put-number .ensures) (c .before .before .put-word2 .ensures))
+    rw (ending-more (k .before .before .before .before .before .before .args .left) (k .if1 .left))
+    (put-then (k .before .before .before .put-number .ensures) (c .before .before .put-word2 .ensures))
 
 pub put-cell-spec : {M : Type 1} → statement M
 put-cell-spec =

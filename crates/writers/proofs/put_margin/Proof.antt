@@ -21,7 +21,8 @@ second m = digits (m .size) ++ ending 1 ++ third m
 abbrev first : Margin → List ℕ
 first m = sign (m .below) ++ second m
 
-room : (c : tie.Start) → c .args .at + length (digits (c .args .k) ++ ending 2 ++ first (c .args .m)) ≤ length (now (c .args .buf))
+room : (c : tie.Start)
+    → c .args .at + length (digits (c .args .k) ++ ending 2 ++ first (c .args .m)) ≤ length (now (c .args .buf))
 unfolding marginRow
 room c = c .pre
 
@@ -34,7 +35,8 @@ put-sign-requires : tie.Need-put-sign-requires
 put-sign-requires c κs =
     let s = c .before .before .before .before .before .before in
     let m = s .args .m in
-    first-fits (sign (m .below)) (second m) _ _ (put-room (first m) (c .before .before .before .put-cell .ensures) (room s))
+    first-fits (sign (m .below)) (second m) _ _
+    (put-room (first m) (c .before .before .before .put-cell .ensures) (room s))
 
 put-cell-requires-2 : tie.Need-put-cell-requires-2
 put-cell-requires-2 c κs =
@@ -42,7 +44,8 @@ put-cell-requires-2 c κs =
     let j = k .before .before .before .before in
     let s = j .before .before .before in
     let m = s .args .m in
-    first-fits (digits (m .size) ++ ending 1) (third m) _ _ (put-room (second m) (k .put-sign .ensures) (put-room (first m) (j .put-cell .ensures) (room s)))
+    first-fits (digits (m .size) ++ ending 1) (third m) _ _
+    (put-room (second m) (k .put-sign .ensures) (put-room (first m) (j .put-cell .ensures) (room s)))
 
 put-cell-requires-3 : tie.Need-put-cell-requires-3
 put-cell-requires-3 c κs =
@@ -51,7 +54,8 @@ put-cell-requires-3 c κs =
     let j = k .before .before .before .before in
     let s = j .before .before .before in
     let m = s .args .m in
-    put-room (third m) (i .put-cell2 .ensures) (put-room (second m) (k .put-sign .ensures) (put-room (first m) (j .put-cell .ensures) (room s)))
+    put-room (third m) (i .put-cell2 .ensures)
+    (put-room (second m) (k .put-sign .ensures) (put-room (first m) (j .put-cell .ensures) (room s)))
 
 same-length : tie.Need-same-length
 same-length c = search needs
@@ -63,7 +67,8 @@ returns c =
     let i = h .before .before .before .before in
     let k = i .before .before .before .before in
     let j = k .before .before .before .before in
-    put-then (j .put-cell .ensures) (put-then (k .put-sign .ensures) (put-then (i .put-cell2 .ensures) (h .put-cell3 .ensures)))
+    put-then (j .put-cell .ensures)
+    (put-then (k .put-sign .ensures) (put-then (i .put-cell2 .ensures) (h .put-cell3 .ensures)))
 
 pub put-margin-spec : {M : Type 1} → statement M
 put-margin-spec =

@@ -13,31 +13,36 @@ use mir.Facts.{toZ-ofZ}
 use Rattle.forms.specs.Bytes.{bytes}
 use Rattle.writers.specs.Signed.{marginRow}
 use Rattle.writers.specs.Outputs.{marginsText}
-use Rattle.writers.proofs.Sequences.{Putting, putting-start, putting-more, putting-end, putting-room, put-then, put-room, put-length}
+use Rattle.writers.proofs.Sequences.{Putting, putting-start, putting-more, putting-end, putting-room, put-then}
+use Rattle.writers.proofs.Sequences.{put-room, put-length}
 use Rattle.writers.proofs.Margins.{marginsFrom, margins-split, margins-more, margins-end}
 use Rattle.writers.proofs.put_margins.Statement.{statement}
 use Rattle.writers.proofs.put_margins.Tie as tie
 
 abbrev Inv-loop : tie.InvT-loop
-Inv-loop buf₀ n margins next₀ i₀ buf next i = (i ≤ n) × (length buf ≡ length buf₀) × Putting buf₀ next₀ (marginsFrom margins n 0) buf next (marginsFrom margins n i)
+Inv-loop buf₀ n margins next₀ i₀ buf next i = (i ≤ n) × (length buf ≡ length buf₀)
+    × Putting buf₀ next₀ (marginsFrom margins n 0) buf next (marginsFrom margins n i)
 
 abbrev μ-loop : tie.MeasureT-loop
 μ-loop buf₀ n margins next₀ i₀ buf next i = n - i
 
 -- the whole listing has room
-fits : (c : tie.Start Inv-loop μ-loop) → 0 + length (bytes "task,margin,pass\r\n" ++ marginsFrom (c .args .t3) (c .args .n) 0) ≤ length (now (c .args .buf))
+fits : (c : tie.Start Inv-loop μ-loop) → 0
+    + length (bytes "task,margin,pass\r\n" ++ marginsFrom (c .args .t3) (c .args .n) 0) ≤ length (now (c .args .buf))
 fits c = let size = ap length (margins-split (c .args .t3) (c .args .n)) in let pre = c .pre .1 in omega arith
 
 more : (c : tie.After-margin-of Inv-loop μ-loop) →
     let k = c .before .before .before in
     let args = k .before .before .before .before .before .before .before .args in
-    marginsFrom (args .t3) (args .n) (k .loop .i) ≡ marginRow (k .loop .i + 1) (c .margin-of .result) ++ marginsFrom (args .t3) (args .n) (k .loop .i + 1)
+    marginsFrom (args .t3) (args .n) (k .loop .i)
+    ≡ marginRow (k .loop .i + 1) (c .margin-of .result) ++ marginsFrom (args .t3) (args .n) (k .loop .i + 1)
 more c =
     let k = c .before .before .before in
     let args = k .before .before .before .before .before .before .before .args in
     let size : length (args .t3) ≡ 32 = search needs in
     let fits : SFits w64 (getD (args .t3) (k .loop .i) (pos 0)) = search needs in
-    rw (c .margin-of .ensures, toZ-ofZ fits) (margins-more (args .t3) (args .n) (k .loop .i) (c .before .before .loop-test .taken) (omega arith))
+    rw (c .margin-of .ensures, toZ-ofZ fits)
+    (margins-more (args .t3) (args .n) (k .loop .i) (c .before .before .loop-test .taken) (omega arith))
 
 slice-aggregate-put-word : tie.Need-slice-aggregate-put-word Inv-loop μ-loop
 slice-aggregate-put-word c = search needs
@@ -68,7 +73,8 @@ put-margin-requires c κs =
     let s = k .before .before .before .before .before .before .before in
     let rest = marginsFrom (s .args .t3) (s .args .n) in
     let room = put-room (rest 0) (k .before .before .before .put-word .ensures) (fits s) in
-    putting-room (k .loop .inv .2) (marginRow (k .loop .i + 1) (c .before .margin-of .result)) (rest (k .loop .i + 1)) (more (c .before)) room
+    putting-room (k .loop .inv .2) (marginRow (k .loop .i + 1) (c .before .margin-of .result))
+    (rest (k .loop .i + 1)) (more (c .before)) room
 
 loop-less : tie.Need-loop-less Inv-loop μ-loop
 loop-less c = search needs
@@ -90,7 +96,8 @@ returns c =
     let k = c .before in
     let s = k .before .before .before .before .before .before .before in
     let none = margins-end (s .args .t3) (s .args .n) (k .loop .i) (c .loop-test .left) in
-    rw (margins-split (s .args .t3) (s .args .n)) (put-then (k .before .before .before .put-word .ensures) (putting-end (k .loop .inv .2) none))
+    rw (margins-split (s .args .t3) (s .args .n))
+    (put-then (k .before .before .before .put-word .ensures) (putting-end (k .loop .inv .2) none))
 
 pub put-margins-spec : {M : Type 1} → statement M
 put-margins-spec =

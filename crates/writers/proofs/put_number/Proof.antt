@@ -25,7 +25,8 @@ array-share-prefix-room c =
     omega (arith, width-room n fits)
 
 slice-aggregate-put-word : tie.Need-slice-aggregate-put-word
-slice-aggregate-put-word c = c .before .before .before .width .ensures ∙ ap length (sym (c .before .before .digits-of .ensures))
+slice-aggregate-put-word c = c .before .before .before .width .ensures
+    ∙ ap length (sym (c .before .before .digits-of .ensures))
 
 put-word-requires : tie.Need-put-word-requires
 put-word-requires c κs = rw (c .before .before .digits-of .ensures) (c .before .before .before .before .before .pre)

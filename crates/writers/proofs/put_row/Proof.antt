@@ -37,7 +37,8 @@ put-cell-requires c κs =
     let k = c .before .before .before in
     let s = k .before .before .before in
     let numbers = s .args .numbers .now in
-    putting-room (k .loop .inv .2) (piece numbers (k .loop .j)) _ (line-more numbers (k .loop .j) (omega arith)) (s .pre)
+    putting-room (k .loop .inv .2) (piece numbers (k .loop .j)) _
+    (line-more numbers (k .loop .j) (omega arith)) (s .pre)
 
 add-j : tie.Need-add-j Inv-loop μ-loop
 add-j c = search needs

@@ -10,13 +10,15 @@ use Rattle.maths.proofs.Lists.{len-mapped}
 use Rattle.forms.specs.Forms.{tasksForm, crlf, line}
 use Rattle.table.specs.Limits.{mostTasks}
 use Rattle.writers.specs.Outputs.{tasksText}
-use Rattle.writers.proofs.Sequences.{Putting, putting-start, putting-more, putting-end, putting-room, put-then, put-room, put-length}
+use Rattle.writers.proofs.Sequences.{Putting, putting-start, putting-more, putting-end, putting-room, put-then}
+use Rattle.writers.proofs.Sequences.{put-room, put-length}
 use Rattle.writers.proofs.Tables.{rowsFrom, tasks-split, rows-more, rows-end}
 use Rattle.writers.proofs.put_tasks.Statement.{statement}
 use Rattle.writers.proofs.put_tasks.Tie as tie
 
 abbrev Inv-loop : tie.InvT-loop
-Inv-loop buf₀ t n next₀ i₀ buf next i = (i ≤ n) × (length buf ≡ length buf₀) × Putting buf₀ next₀ (rowsFrom t n 0) buf next (rowsFrom t n i)
+Inv-loop buf₀ t n next₀ i₀ buf next i = (i ≤ n) × (length buf ≡ length buf₀)
+    × Putting buf₀ next₀ (rowsFrom t n 0) buf next (rowsFrom t n i)
 
 abbrev μ-loop : tie.MeasureT-loop
 μ-loop buf₀ t n next₀ i₀ buf next i = n - i
@@ -25,23 +27,27 @@ rows-32 : (c : tie.Start Inv-loop μ-loop) → length (c .args .t2 .rows) ≡ mo
 rows-32 c = search (len-mapped, needs)
 
 split : (c : tie.After-fewer Inv-loop μ-loop)
-    → tasksText (c .before .before .args .t2) ≡ tasksForm .header ++ crlf ++ rowsFrom (c .before .before .args .t2) (c .fewer .result) 0
+    → tasksText (c .before .before .args .t2)
+    ≡ tasksForm .header ++ crlf ++ rowsFrom (c .before .before .args .t2) (c .fewer .result) 0
 split c = tasks-split (c .before .before .args .t2) (rows-32 (c .before .before)) (c .fewer .result) (c .fewer .ensures)
 
 -- the whole text has room
 fits : (c : tie.After-fewer Inv-loop μ-loop)
-    → 0 + length (tasksForm .header ++ crlf ++ rowsFrom (c .before .before .args .t2) (c .fewer .result) 0) ≤ length (now (c .before .before .args .buf))
+    → 0 + length (tasksForm .header ++ crlf ++ rowsFrom (c .before .before .args .t2) (c .fewer .result) 0)
+    ≤ length (now (c .before .before .args .buf))
 fits c = let size = ap length (split c) in let pre = c .before .before .pre in omega arith
 
 more : (c : tie.After-task-numbers Inv-loop μ-loop) →
     let k = c .before .before .before in
     let h = k .before .before .before .before .before .before in
     let t = h .before .before .args .t2 in
-    rowsFrom t (h .fewer .result) (k .loop .i) ≡ line (c .task-numbers .result) ++ rowsFrom t (h .fewer .result) (k .loop .i + 1)
+    rowsFrom t (h .fewer .result) (k .loop .i)
+    ≡ line (c .task-numbers .result) ++ rowsFrom t (h .fewer .result) (k .loop .i + 1)
 more c =
     let k = c .before .before .before in
     let h = k .before .before .before .before .before .before in
-    rows-more (h .before .before .args .t2) (rows-32 (h .before .before)) (h .fewer .result) (h .fewer .ensures) (k .loop .i) (c .before .before .loop-test .taken) (c .task-numbers .result) (c .task-numbers .ensures)
+    rows-more (h .before .before .args .t2) (rows-32 (h .before .before)) (h .fewer .result) (h .fewer .ensures)
+    (k .loop .i) (c .before .before .loop-test .taken) (c .task-numbers .result) (c .task-numbers .ensures)
 
 fewer-requires : tie.Need-fewer-requires Inv-loop μ-loop
 fewer-requires c κs = search needs
@@ -52,7 +58,11 @@ slice-aggregate-put-word c = search needs
 put-word-requires : tie.Need-put-word-requires Inv-loop μ-loop
 put-word-requires c κs =
     let h = c .before .before in
-    omega (arith, fits h, length-append (tasksForm .header ++ crlf) (rowsFrom (h .before .before .args .t2) (h .fewer .result) 0))
+    omega (
+      arith,
+      fits h,
+      length-append (tasksForm .header ++ crlf) (rowsFrom (h .before .before .args .t2) (h .fewer .result) 0),
+    )
 
 loop-holds : tie.Need-loop-holds Inv-loop μ-loop
 loop-holds c = (search needs, refl, putting-start)
@@ -78,7 +88,8 @@ put-row-requires c κs =
     let t = h .before .before .args .t2 in
     let n = h .fewer .result in
     let room = put-room (rowsFrom t n 0) (k .before .before .before .put-word .ensures) (fits h) in
-    putting-room (k .loop .inv .2) (line (c .before .before .task-numbers .result)) (rowsFrom t n (k .loop .i + 1)) (more (c .before .before)) room
+    putting-room (k .loop .inv .2) (line (c .before .before .task-numbers .result)) (rowsFrom t n (k .loop .i + 1))
+    (more (c .before .before)) room
 
 add-i : tie.Need-add-i Inv-loop μ-loop
 add-i c = search needs
@@ -102,7 +113,8 @@ returns : tie.Need-returns Inv-loop μ-loop
 returns c =
     let k = c .before in
     let h = k .before .before .before .before .before .before in
-    let none = rows-end (h .before .before .args .t2) (rows-32 (h .before .before)) (h .fewer .result) (h .fewer .ensures) (k .loop .i) (c .loop-test .left) in
+    let none = rows-end (h .before .before .args .t2) (rows-32 (h .before .before)) (h .fewer .result)
+    (h .fewer .ensures) (k .loop .i) (c .loop-test .left) in
     rw (split h) (put-then (k .before .before .before .put-word .ensures) (putting-end (k .loop .inv .2) none))
 
 pub put-tasks-spec : {M : Type 1} → statement M

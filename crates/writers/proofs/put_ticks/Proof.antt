@@ -8,21 +8,25 @@ use denote.Ref.{now}
 use lib.ListN.{length, length-append}
 use Rattle.forms.specs.Forms.{ticksForm, crlf, line}
 use Rattle.writers.specs.Outputs.{reportsText}
-use Rattle.writers.proofs.Sequences.{Putting, putting-start, putting-more, putting-end, putting-room, put-then, put-room, put-length}
+use Rattle.writers.proofs.Sequences.{Putting, putting-start, putting-more, putting-end, putting-room, put-then}
+use Rattle.writers.proofs.Sequences.{put-room, put-length}
 use Rattle.writers.proofs.Ticks.{ticksFrom, ticks-split, ticks-more, ticks-end}
 use Rattle.writers.proofs.put_ticks.Statement.{statement}
 use Rattle.writers.proofs.put_ticks.Tie as tie
 
 abbrev Inv-loop : tie.InvT-loop
-Inv-loop buf₀ released finished n next₀ i₀ buf next i = (i ≤ n) × (length buf ≡ length buf₀) × Putting buf₀ next₀ (ticksFrom released finished 0) buf next (ticksFrom released finished i)
+Inv-loop buf₀ released finished n next₀ i₀ buf next i = (i ≤ n) × (length buf ≡ length buf₀)
+    × Putting buf₀ next₀ (ticksFrom released finished 0) buf next (ticksFrom released finished i)
 
 abbrev μ-loop : tie.MeasureT-loop
 μ-loop buf₀ released finished n next₀ i₀ buf next i = n - i
 
 -- the whole text has room
 fits : (c : tie.Start Inv-loop μ-loop)
-    → 0 + length (ticksForm .header ++ crlf ++ ticksFrom (c .args .released .now) (c .args .finished .now) 0) ≤ length (now (c .args .buf))
-fits c = let size = ap length (ticks-split (c .args .released .now) (c .args .finished .now)) in let pre = c .pre in omega arith
+    → 0 + length (ticksForm .header ++ crlf ++ ticksFrom (c .args .released .now) (c .args .finished .now) 0)
+    ≤ length (now (c .args .buf))
+fits c = let size = ap length (ticks-split (c .args .released .now) (c .args .finished .now)) in
+    let pre = c .pre in omega arith
 
 more : (c : tie.After-tick-numbers Inv-loop μ-loop) →
     let k = c .before .before .before .before in
@@ -33,7 +37,8 @@ more c =
     let k = c .before .before .before .before in
     let args = k .before .before .before .before .before .before .before .before .before .before .args in
     let few = k .before .before .before .before .before .before .fewer .ensures in
-    ticks-more (args .released .now) (args .finished .now) (k .loop .i) (omega arith) (omega arith) (c .tick-numbers .result) (c .tick-numbers .ensures)
+    ticks-more (args .released .now) (args .finished .now) (k .loop .i) (omega arith) (omega arith)
+    (c .tick-numbers .result) (c .tick-numbers .ensures)
 
 fewer-requires : tie.Need-fewer-requires Inv-loop μ-loop
 fewer-requires c κs = search needs
@@ -44,7 +49,11 @@ slice-aggregate-put-word c = search needs
 put-word-requires : tie.Need-put-word-requires Inv-loop μ-loop
 put-word-requires c κs =
     let s = c .before .before .before .before .before .before in
-    omega (arith, fits s, length-append (ticksForm .header ++ crlf) (ticksFrom (s .args .released .now) (s .args .finished .now) 0))
+    omega (
+      arith,
+      fits s,
+      length-append (ticksForm .header ++ crlf) (ticksFrom (s .args .released .now) (s .args .finished .now) 0),
+    )
 
 loop-holds : tie.Need-loop-holds Inv-loop μ-loop
 loop-holds c = (search needs, refl, putting-start)
@@ -77,11 +86,13 @@ put-row-requires c κs =
     let s = k .before .before .before .before .before .before .before .before .before .before in
     let rest = ticksFrom (s .args .released .now) (s .args .finished .now) in
     let room = put-room (rest 0) (k .before .before .before .put-word .ensures) (fits s) in
-    putting-room (k .loop .inv .2) (line (c .before .before .tick-numbers .result)) (rest (k .loop .i + 1)) (more (c .before .before)) room
+    putting-room (k .loop .inv .2) (line (c .before .before .tick-numbers .result)) (rest (k .loop .i + 1))
+    (more (c .before .before)) room
 
 add-i : tie.Need-add-i Inv-loop μ-loop
 add-i c =
-    let few = c .before .before .before .before .before .before .before .before .before .before .before .before .before .before .before .fewer .ensures in
+    let few = c .before .before .before .before .before .before .before .before .before .before .before .before .before
+    .before .before .fewer .ensures in
     search needs
 
 loop-less : tie.Need-loop-less Inv-loop μ-loop
@@ -105,7 +116,8 @@ returns c =
     let s = k .before .before .before .before .before .before .before .before .before .before in
     let few = k .before .before .before .before .before .before .fewer .ensures in
     let none = ticks-end (s .args .released .now) (s .args .finished .now) (k .loop .i) (omega arith) in
-    rw (ticks-split (s .args .released .now) (s .args .finished .now)) (put-then (k .before .before .before .put-word .ensures) (putting-end (k .loop .inv .2) none))
+    rw (ticks-split (s .args .released .now) (s .args .finished .now))
+    (put-then (k .before .before .before .put-word .ensures) (putting-end (k .loop .inv .2) none))
 
 pub put-ticks-spec : {M : Type 1} → statement M
 put-ticks-spec =

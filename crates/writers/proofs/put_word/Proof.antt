@@ -12,7 +12,8 @@ use Rattle.writers.proofs.put_word.Tie as tie
 -- The loop's invariant: what is left of the word makes of the buffer what the whole word was to make of it.
 
 abbrev Inv-loop : tie.InvT-loop
-Inv-loop buf₀ at word next₀ i₀ buf next i = (next ≡ at + i) × (i ≤ length word) × (length buf ≡ length buf₀) × (sets buf next (drop i word) ≡ sets buf₀ at word)
+Inv-loop buf₀ at word next₀ i₀ buf next i = (next ≡ at + i) × (i ≤ length word) × (length buf ≡ length buf₀)
+    × (sets buf next (drop i word) ≡ sets buf₀ at word)
 
 abbrev μ-loop : tie.MeasureT-loop
 μ-loop buf₀ at word next₀ i₀ buf next i = length word - i
@@ -52,7 +53,10 @@ returns : tie.Need-returns Inv-loop μ-loop
 returns c =
     let k = c .before in
     let word = k .before .args .word .now in
-    record { behind = omega arith; holds = sym (word-end (k .loop .buf) (k .loop .next) word (k .loop .i) (omega arith)) ∙ k .loop .inv .3 }
+    record {
+      behind = omega arith;
+      holds = sym (word-end (k .loop .buf) (k .loop .next) word (k .loop .i) (omega arith)) ∙ k .loop .inv .3;
+    }
 
 pub put-word-spec : {M : Type 1} → statement M
 put-word-spec =

@@ -36,7 +36,8 @@ returns : tie.Need-returns Inv-loop μ-loop
 returns c =
     let k = c .before .before .before .before in
     let t = k .args .t1 in
-    rw (tasks-split t (rows-32 k) (min (t .n) mostTasks) refl) (room-halt _ _ _ _ (c .before .before .word-room .ensures) (not-true _ (c .if1 .taken)))
+    rw (tasks-split t (rows-32 k) (min (t .n) mostTasks) refl)
+    (room-halt _ _ _ _ (c .before .before .word-room .ensures) (not-true _ (c .if1 .taken)))
 
 fewer-requires : tie.Need-fewer-requires Inv-loop μ-loop
 fewer-requires c κs = search needs
@@ -73,7 +74,8 @@ returns-2 c =
     let n = k .before .fewer in
     let numbers = c .before .before .before .before .task-numbers in
     let less = c .before .before .before .before .before .before .loop-test .taken in
-    let more = rows-more (s .args .t1) (rows-32 s) (n .result) (n .ensures) (k .loop .i) less (numbers .result) (numbers .ensures) in
+    let more = rows-more (s .args .t1) (rows-32 s) (n .result) (n .ensures) (k .loop .i) less
+    (numbers .result) (numbers .ensures) in
     room-halt _ _ _ _ (c .before .before .line-room .ensures) (not-true _ (c .if2 .taken))
     ∙ sym (k .loop .inv .1 ∙ ap (λ (l : List ℕ). roomFor l (k .loop .left)) more)
 
@@ -90,7 +92,8 @@ loop-again c =
     let n = k .before .fewer in
     let numbers = c .before .before .before .before .task-numbers in
     let less = c .before .before .before .before .before .before .loop-test .taken in
-    let more = rows-more (s .args .t1) (rows-32 s) (n .result) (n .ensures) (k .loop .i) less (numbers .result) (numbers .ensures) in (
+    let more = rows-more (s .args .t1) (rows-32 s) (n .result) (n .ensures) (k .loop .i) less
+    (numbers .result) (numbers .ensures) in (
       search needs,
       k .loop .inv .1
           ∙ ap (λ (l : List ℕ). roomFor l (k .loop .left)) more

@@ -14,7 +14,8 @@ use Rattle.writers.proofs.ticks_room.Statement.{statement}
 use Rattle.writers.proofs.ticks_room.Tie as tie
 
 abbrev Inv-loop : tie.InvT-loop
-Inv-loop released finished room n left₀ i₀ left i = (i ≤ n) × (roomFor (reportsText released finished) room ≡ roomFor (ticksFrom released finished i) left)
+Inv-loop released finished room n left₀ i₀ left i = (i ≤ n)
+    × (roomFor (reportsText released finished) room ≡ roomFor (ticksFrom released finished i) left)
 
 abbrev μ-loop : tie.MeasureT-loop
 μ-loop released finished room n left₀ i₀ left i = n - i
@@ -28,7 +29,8 @@ more c =
     let k = c .before .before .before .before in
     let args = k .before .before .before .before .before .before .before .before .args in
     let few = k .before .fewer .ensures in
-    ticks-more (args .released .now) (args .finished .now) (k .loop .i) (omega arith) (omega arith) (c .tick-numbers .result) (c .tick-numbers .ensures)
+    ticks-more (args .released .now) (args .finished .now) (k .loop .i) (omega arith) (omega arith)
+    (c .tick-numbers .result) (c .tick-numbers .ensures)
 
 slice-aggregate-word-room : tie.Need-slice-aggregate-word-room Inv-loop μ-loop
 slice-aggregate-word-room c = search needs
@@ -39,7 +41,8 @@ word-room-requires c κs = search needs
 returns : tie.Need-returns Inv-loop μ-loop
 returns c =
     let args = c .before .before .before .before .before .before .args in
-    rw (ticks-split (args .released .now) (args .finished .now)) (room-halt _ _ _ _ (c .before .before .word-room .ensures) (not-true _ (c .if1 .taken)))
+    rw (ticks-split (args .released .now) (args .finished .now))
+    (room-halt _ _ _ _ (c .before .before .word-room .ensures) (not-true _ (c .if1 .taken)))
 
 fewer-requires : tie.Need-fewer-requires Inv-loop μ-loop
 fewer-requires c κs = search needs

@@ -9,7 +9,8 @@ use Rattle.writers.proofs.Wholes.{wrote-short, wrote-put, fits-is, long
 use Rattle.writers.proofs.write_margins.Statement.{statement}
 use Rattle.writers.proofs.write_margins.Tie as tie
 
-held : (c : tie.After-fewer) → let args = c .before .before .args in marginsText (args .n) (args .margins) ≡ marginsText (c .fewer .result) (args .margins)
+held : (c : tie.After-fewer) → let args = c .before .before .args in
+    marginsText (args .n) (args .margins) ≡ marginsText (c .fewer .result) (args .margins)
 held c =
     let args = c .before .before .args in
     let size : length (args .margins) ≡ 32 = search needs in
@@ -27,7 +28,8 @@ short-requires c κs = search needs
 returns : tie.Need-returns
 returns c =
     let k = c .before .before .before in
-    rw (held (k .before)) (wrote-short _ _ _ (c .short .ensures) (long-is _ _ _ (k .margins-room .ensures) (not-true _ (c .before .if1 .taken))))
+    rw (held (k .before)) (wrote-short _ _ _ (c .short .ensures)
+    (long-is _ _ _ (k .margins-room .ensures) (not-true _ (c .before .if1 .taken))))
 
 put-margins-requires : tie.Need-put-margins-requires
 put-margins-requires c κs =
@@ -46,7 +48,8 @@ returns-2 c =
     let e = c .before .before .before .before .before in
     let k = e .before .before in
     rw (held (k .before))
-    (wrote-put _ _ _ _ _ (c .whole .ensures) (fits-is _ _ _ (k .margins-room .ensures) (not-false _ (e .if1 .left))) (c .before .before .before .put-margins .ensures))
+    (wrote-put _ _ _ _ _ (c .whole .ensures) (fits-is _ _ _ (k .margins-room .ensures) (not-false _ (e .if1 .left)))
+    (c .before .before .before .put-margins .ensures))
 
 pub write-margins-spec : {M : Type 1} → statement M
 write-margins-spec =

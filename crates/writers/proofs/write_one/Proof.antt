@@ -11,7 +11,8 @@ use Rattle.writers.proofs.Wholes.{wrote-short, wrote-put, fits-is, long
 use Rattle.writers.proofs.write_one.Statement.{statement}
 use Rattle.writers.proofs.write_one.Tie as tie
 
-fits : (c : tie.Else1) → let args = c .before .before .before .before .before .before .args in length (now (args .header) ++ line (now (args .numbers))) ≤ length (now (args .buf))
+fits : (c : tie.Else1) → let args = c .before .before .before .before .before .before .args in
+    length (now (args .header) ++ line (now (args .numbers))) ≤ length (now (args .buf))
 fits c = fits-is _ _ _ (c .before .before .one-room .ensures) (not-false _ (c .if1 .left))
 
 one-room-requires : tie.Need-one-room-requires
@@ -21,7 +22,8 @@ short-requires : tie.Need-short-requires
 short-requires c κs = search needs
 
 returns : tie.Need-returns
-returns c = wrote-short _ _ _ (c .short .ensures) (long-is _ _ _ (c .before .before .before .one-room .ensures) (not-true _ (c .before .if1 .taken)))
+returns c = wrote-short _ _ _ (c .short .ensures)
+    (long-is _ _ _ (c .before .before .before .one-room .ensures) (not-true _ (c .before .if1 .taken)))
 
 put-word-requires : tie.Need-put-word-requires
 put-word-requires c κs =
@@ -44,7 +46,9 @@ same-length c = search needs
 returns-2 : tie.Need-returns-2
 returns-2 c =
     let e = c .before .before .before .before .before .before .before .before .before in
-    wrote-put _ _ _ _ _ (c .whole .ensures) (fits e) (put-then (c .before .before .before .before .before .before .before .put-word .ensures) (c .before .before .before .put-row .ensures))
+    wrote-put _ _ _ _ _ (c .whole .ensures) (fits e)
+    (put-then (c .before .before .before .before .before .before .before .put-word .ensures)
+    (c .before .before .before .put-row .ensures))
 
 pub write-one-spec : {M : Type 1} → statement M
 write-one-spec =

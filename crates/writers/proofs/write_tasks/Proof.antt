@@ -11,10 +11,12 @@ short-requires : tie.Need-short-requires
 short-requires c κs = search needs
 
 returns : tie.Need-returns
-returns c = wrote-short _ _ _ (c .short .ensures) (long-is _ _ _ (c .before .before .before .tasks-room .ensures) (not-true _ (c .before .if1 .taken)))
+returns c = wrote-short _ _ _ (c .short .ensures)
+    (long-is _ _ _ (c .before .before .before .tasks-room .ensures) (not-true _ (c .before .if1 .taken)))
 
 put-tasks-requires : tie.Need-put-tasks-requires
-put-tasks-requires c κs = fits-is _ _ _ (c .before .before .before .tasks-room .ensures) (not-false _ (c .before .if1 .left))
+put-tasks-requires c κs =
+    fits-is _ _ _ (c .before .before .before .tasks-room .ensures) (not-false _ (c .before .if1 .left))
 
 whole-requires : tie.Need-whole-requires
 whole-requires c κs = search needs
@@ -25,7 +27,8 @@ same-length c = search needs
 returns-2 : tie.Need-returns-2
 returns-2 c =
     let e = c .before .before .before .before .before in
-    wrote-put _ _ _ _ _ (c .whole .ensures) (fits-is _ _ _ (e .before .before .tasks-room .ensures) (not-false _ (e .if1 .left))) (c .before .before .before .put-tasks .ensures)
+    wrote-put _ _ _ _ _ (c .whole .ensures) (fits-is _ _ _ (e .before .before .tasks-room .ensures)
+    (not-false _ (e .if1 .left))) (c .before .before .before .put-tasks .ensures)
 
 pub write-tasks-spec : {M : Type 1} → statement M
 write-tasks-spec =

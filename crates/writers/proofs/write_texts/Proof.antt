@@ -20,7 +20,8 @@ measured c =
     let args = c .before .before .before .before .before .before .before .args in
     let room = length (now (args .platform)) in
     c .one-room .ensures
-    ∙ ap (λ (l : List ℕ). roomFor (platformForm .header ++ crlf ++ line l) room) (c .before .before .before .platform-numbers .ensures)
+    ∙ ap (λ (l : List ℕ). roomFor (platformForm .header ++ crlf ++ line l) room)
+    (c .before .before .before .platform-numbers .ensures)
     ∙ ap (λ (l : List ℕ). roomFor l room) (sym (one-text platformForm (platformRow (args .t .platform))))
 
 platform-numbers-requires : tie.Need-platform-numbers-requires
@@ -52,7 +53,8 @@ short-requires-2 c κs = search needs
 returns-2 : tie.Need-returns-2
 returns-2 c =
     let k = c .before .before .before in
-    both-short _ _ _ _ _ (c .short2 .ensures) (inr (long-is _ _ _ (k .tasks-room .ensures) (not-true _ (c .before .if2 .taken))))
+    both-short _ _ _ _ _ (c .short2 .ensures)
+    (inr (long-is _ _ _ (k .tasks-room .ensures) (not-true _ (c .before .if2 .taken))))
 
 write-platform-requires : tie.Need-write-platform-requires
 write-platform-requires c κs = search needs

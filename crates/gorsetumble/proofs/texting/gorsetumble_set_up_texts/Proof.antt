@@ -26,7 +26,10 @@ unfolding code.routine tablesOf
 gorsetumble-set-up-texts-spec 𝓤 H 𝓜 𝓖 𝓡 =
     entered 𝓤 H (tripleOf 𝓤 H (𝓖 .A) set-up.signature (set-up.spec 𝓤 H (𝓖 .A) (𝓜 .mem) (𝓡 .run)))
     (tables 𝓤 H 𝓜 𝓡 code.env .C) (tables 𝓤 H 𝓜 𝓡 code.env .Λ) #set-up code.function (code.unfolded 𝓤 H 𝓜 𝓡)
-    (meets machine (S.the-type .name) TextsSetUp (λ s. s .refused) (λ s. s .machine) (S.the-type .to-one) renewed setUpTexts renewed-texts #work
+    (meets machine (S.the-type .name) TextsSetUp (λ s. s .refused) (λ s. s .machine)
+    (S.the-type .to-one) renewed setUpTexts renewed-texts #work
     𝓤 H (𝓖 .A) (givenOf 𝓤 H 𝓜 𝓖) (𝓜 .mem) (𝓡 .run) (tablesOf 𝓤 H 𝓜 (tables 𝓤 H 𝓜 𝓡 code.env))
-    (cited 𝓤 H (TextsOf 𝓤 H (𝓖 .A) (𝓜 .mem) (𝓡 .run)) 𝓜 𝓡 code.env #table-of table-of-def.routine code.calls-gorsetumble·texting·read-texts (table-of-thm.met 𝓤 H 𝓜 𝓖 𝓡))
-    (cited 𝓤 H (tripleOf 𝓤 H (𝓖 .A) work.signature (work.spec 𝓤 H (𝓖 .A) (𝓜 .mem) (𝓡 .run))) 𝓜 𝓡 code.env #work work-def.routine code.calls-gorsetumble·texting·renew (work-thm.met 𝓤 H 𝓜 𝓖 𝓡)))
+    (cited 𝓤 H (TextsOf 𝓤 H (𝓖 .A) (𝓜 .mem) (𝓡 .run)) 𝓜 𝓡 code.env #table-of table-of-def.routine
+    code.calls-gorsetumble·texting·read-texts (table-of-thm.met 𝓤 H 𝓜 𝓖 𝓡))
+    (cited 𝓤 H (tripleOf 𝓤 H (𝓖 .A) work.signature (work.spec 𝓤 H (𝓖 .A) (𝓜 .mem) (𝓡 .run))) 𝓜 𝓡 code.env #work
+    work-def.routine code.calls-gorsetumble·texting·renew (work-thm.met 𝓤 H 𝓜 𝓖 𝓡)))

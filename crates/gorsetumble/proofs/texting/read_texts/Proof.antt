@@ -17,7 +17,8 @@ unfolding textsRead
 returns c =
     let t = c .before .before in
     let p = t .before .before .read-platform in
-    platform-bad (p .result) (read tasksForm _) (read platformForm _) (p .ensures) (t .if1 .taken) (c .bad .result) (c .bad .ensures)
+    platform-bad (p .result) (read tasksForm _) (read platformForm _) (p .ensures) (t .if1 .taken)
+    (c .bad .result) (c .bad .ensures)
 
 read-tasks-requires : tie.Need-read-tasks-requires
 read-tasks-requires c κs = search needs
@@ -32,7 +33,8 @@ returns-2 c =
     let k = t .before .before .read-tasks in
     let e = t .before .before .before .before in
     let p = e .before .before .read-platform in
-    tasks-bad (p .result) (k .result) (read platformForm _) (read tasksForm _) (p .ensures) (e .if1 .left) (k .ensures) (t .if2 .taken) (c .bad2 .result) (c .bad2 .ensures)
+    tasks-bad (p .result) (k .result) (read platformForm _) (read tasksForm _) (p .ensures) (e .if1 .left) (k .ensures)
+    (t .if2 .taken) (c .bad2 .result) (c .bad2 .ensures)
 
 returns-3 : tie.Need-returns-3
 unfolding textsRead
@@ -41,8 +43,10 @@ returns-3 c =
     let k = t .before .before .read-tasks in
     let e = t .before .before .before .before in
     let p = e .before .before .read-platform in
-    both-good (p .result) (k .result) (read platformForm _) (read tasksForm _) (p .ensures) (e .if1 .left) (k .ensures) (t .if2 .left)
+    both-good (p .result) (k .result) (read platformForm _) (read tasksForm _) (p .ensures) (e .if1 .left)
+    (k .ensures) (t .if2 .left)
 
 pub read-texts-spec : {M : Type 1} → statement M
 read-texts-spec =
-    tie.close (tie.spec read-platform-requires bad-requires returns read-tasks-requires bad-requires-2 returns-2 returns-3)
+    tie.close
+    (tie.spec read-platform-requires bad-requires returns read-tasks-requires bad-requires-2 returns-2 returns-3)

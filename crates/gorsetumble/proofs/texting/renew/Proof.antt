@@ -15,7 +15,8 @@ set-up-requires c κs = search needs
 
 returns-2 : tie.Need-returns-2
 unfolding renewed
-returns-2 c = rw (eq-eqb _ 0 (c .before .before .before .before .if1 .left)) (ap ofTable (c .before .before .set-up .ensures))
+returns-2 c =
+    rw (eq-eqb _ 0 (c .before .before .before .before .if1 .left)) (ap ofTable (c .before .before .set-up .ensures))
 
 pub renew-spec : {M : Type 1} → statement M
 renew-spec = tie.close (tie.spec returns set-up-requires returns-2)

@@ -18,7 +18,8 @@ unfolding setUp
 returns c =
     let r = c .before .before .before in
     let t = r .before .args .t in
-    let e : refusal t .number ≡ 0 = ap (λ (x : Refusal). x .number) (sym (r .refused .ensures)) ∙ c .before .if1 .taken in
+    let e : refusal t .number ≡ 0 =
+    ap (λ (x : Refusal). x .number) (sym (r .refused .ensures)) ∙ c .before .if1 .taken in
     rw (r .refused .ensures, c .fresh .ensures) (simp (eq-eqb (refusal t .number) 0 e))
 
 returns-2 : tie.Need-returns-2
@@ -26,7 +27,8 @@ unfolding setUp
 returns-2 c =
     let r = c .before .before in
     let t = r .before .args .t in
-    let ne : refusal t .number ≡ 0 → ⊥ = λ z. c .if1 .left (ap (λ (x : Refusal). x .number) (r .refused .ensures) ∙ z) in
+    let ne : refusal t .number ≡ 0 → ⊥ =
+    λ z. c .if1 .left (ap (λ (x : Refusal). x .number) (r .refused .ensures) ∙ z) in
     rw (r .refused .ensures) (simp (ne-eqb (refusal t .number) 0 ne))
 
 pub set-up-spec : {M : Type 1} → statement M

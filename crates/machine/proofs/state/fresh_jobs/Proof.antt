@@ -24,7 +24,8 @@ none-requires c κs = search needs
 
 loop-holds : tie.Need-loop-holds Inv-loop μ-loop
 unfolding tabulate
-loop-holds c = (search needs, rw (c .none .ensures) (up-none mostTasks (freshJob (c .before .before .args .t1)) (λ k. noJob)))
+loop-holds c =
+    (search needs, rw (c .none .ensures) (up-none mostTasks (freshJob (c .before .before .args .t1)) (λ k. noJob)))
 
 mul-row : tie.Need-mul-row Inv-loop μ-loop
 mul-row c = search needs

@@ -37,7 +37,8 @@ returns c =
     let k = c .before .before .before .before in
     let t = k .before .before .args .t1 in
     let len : length (t .rows) ≡ mostTasks = search (len-mapped, needs) in
-    sym (k .loop .inv .1 ∙ row-bad (P t) (t .n) (t .rows) (k .loop .i) (omega arith) (omega arith) _ (c .before .refused .ensures) (c .if1 .taken))
+    sym (k .loop .inv .1 ∙ row-bad (P t) (t .n) (t .rows) (k .loop .i) (omega arith) (omega arith) _
+    (c .before .refused .ensures) (c .if1 .taken))
 
 add-i : tie.Need-add-i Inv-loop μ-loop
 add-i c = search needs
@@ -49,8 +50,11 @@ loop-again : tie.Need-loop-again Inv-loop μ-loop
 loop-again c =
     let k = c .before .before .before .before in
     let t = k .before .before .args .t1 in
-    let len : length (t .rows) ≡ mostTasks = search (len-mapped, needs) in
-    (search needs, k .loop .inv .1 ∙ row-good (P t) (t .n) (t .rows) (k .loop .i) (omega arith) (omega arith) (sym (c .if1 .left) ∙ c .before .refused .ensures))
+    let len : length (t .rows) ≡ mostTasks = search (len-mapped, needs) in (
+      search needs,
+      k .loop .inv .1 ∙ row-good (P t) (t .n) (t .rows) (k .loop .i) (omega arith) (omega arith)
+          (sym (c .if1 .left) ∙ c .before .refused .ensures),
+    )
 
 returns-2 : tie.Need-returns-2 Inv-loop μ-loop
 returns-2 c =

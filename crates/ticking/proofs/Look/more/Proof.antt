@@ -20,9 +20,11 @@ returns : tie.Need-returns
 returns c =
     let n = c .before .before .before in
     let s = n .before in
-    let still : isRunning (s .args .j .stage) ≡ false = sym (c .before .is-running .ensures) ∙ not-true _ (c .if1 .taken) in
+    let still : isRunning (s .args .j .stage) ≡ false =
+    sym (c .before .is-running .ensures) ∙ not-true _ (c .if1 .taken) in
     rw (c .before .before .first-of .ensures, n .number-of .ensures)
-    (look-still (s .args .k) (s .args .task) (s .args .j) (s .args .released) (s .args .finished) (s .args .self) still (s .pre .3 still))
+    (look-still (s .args .k) (s .args .task) (s .args .j) (s .args .released) (s .args .finished)
+    (s .args .self) still (s .pre .3 still))
 
 add-running : tie.Need-add-t14
 add-running c = search needs
@@ -34,7 +36,8 @@ running c = sym (c .before .is-running .ensures) ∙ not-false _ (c .if1 .left)
 returns-2 : tie.Need-returns-2
 returns-2 c =
     let e = c .before .before .before .before in
-    rw (e .before .before .first-of .ensures, e .before .before .before .number-of .ensures) (rw (running e, c .if2 .taken))
+    rw (e .before .before .first-of .ensures, e .before .before .before .number-of .ensures)
+    (rw (running e, c .if2 .taken))
 
 add-stays : tie.Need-add-t14-2
 add-stays c = search needs
@@ -43,7 +46,8 @@ returns-3 : tie.Need-returns-3
 returns-3 c =
     let b = c .before .before .before in
     let e = b .before .before .before .before in
-    rw (e .before .before .first-of .ensures, e .before .before .before .number-of .ensures) (rw (running e, b .if2 .left))
+    rw (e .before .before .first-of .ensures, e .before .before .before .number-of .ensures)
+    (rw (running e, b .if2 .left))
 
 pub more-spec : {M : Type 1} → statement M
 more-spec =

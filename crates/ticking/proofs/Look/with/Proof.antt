@@ -26,8 +26,10 @@ unfolding lookWith
 returns-2 c =
     let e = c .before .before in
     let s = e .before .before .args in
-    let w : admits (s .p .0) (s .task) (s .j) (s .self) ≡ true = sym (e .before .admits .ensures) ∙ not-false _ (e .if1 .left) in
-    rw w (look-left (s .task) (s .j) _ _ (s .k) (sym (c .before .is-left .ensures) ∙ c .if2 .taken) (s .p .0) (s .self) w)
+    let w : admits (s .p .0) (s .task) (s .j) (s .self) ≡ true =
+    sym (e .before .admits .ensures) ∙ not-false _ (e .if1 .left) in
+    rw w
+    (look-left (s .task) (s .j) _ _ (s .k) (sym (c .before .is-left .ensures) ∙ c .if2 .taken) (s .p .0) (s .self) w)
 
 has-task-requires : tie.Need-has-task-requires
 has-task-requires c κs = search needs
@@ -39,14 +41,20 @@ more-requires : tie.Need-more-requires
 more-requires c κs =
     let e = c .before .before .before .before in
     let s = e .before .before in
-    let w : admits (s .args .p .0) (s .args .task) (s .args .j) (s .args .self) ≡ true = sym (e .before .admits .ensures) ∙ not-false _ (e .if1 .left) in
-    (s .pre .1, s .pre .2, admitted-ran (s .args .p .0) (s .args .task) (s .args .j) (s .args .self) w, holds-none (s .args .p .0) (s .args .task) (s .args .j) (s .args .self) w)
+    let w : admits (s .args .p .0) (s .args .task) (s .args .j) (s .args .self) ≡ true =
+    sym (e .before .admits .ensures) ∙ not-false _ (e .if1 .left) in (
+      s .pre .1,
+      s .pre .2,
+      admitted-ran (s .args .p .0) (s .args .task) (s .args .j) (s .args .self) w,
+      holds-none (s .args .p .0) (s .args .task) (s .args .j) (s .args .self) w,
+    )
 
 returns-3 : tie.Need-returns-3
 unfolding lookWith
 returns-3 c =
     let e = c .before .before .before .before .before in
-    rw (sym (e .before .admits .ensures) ∙ not-false _ (e .if1 .left)) (c .more .ensures ∙ rw (c .before .has-task2 .ensures, c .before .before .has-task .ensures))
+    rw (sym (e .before .admits .ensures) ∙ not-false _ (e .if1 .left))
+    (c .more .ensures ∙ rw (c .before .has-task2 .ensures, c .before .before .has-task .ensures))
 
 pub with-spec : {M : Type 1} → statement M
 with-spec =

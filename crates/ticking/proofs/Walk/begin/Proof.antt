@@ -25,19 +25,27 @@ by-requires-2 c κs = search needs
 returns-2 : tie.Need-returns-2
 returns-2 c =
     let e = c .before .before in
-    rw (sym (e .before .before .tries .ensures) ∙ not-false _ (e .before .if1 .left), sym (e .fits-in .ensures) ∙ not-true _ (c .before .if2 .taken)) (c .by2 .ensures)
+    rw (
+      sym (e .before .before .tries .ensures) ∙ not-false _ (e .before .if1 .left),
+      sym (e .fits-in .ensures) ∙ not-true _ (c .before .if2 .taken),
+    ) (c .by2 .ensures)
 
 go-requires : tie.Need-go-requires
 go-requires c κs =
     let e = c .before in
     let s = e .before .before .before in
-    let room = both (leb 1 (s .args .self .cores .0)) _ (sym (e .fits-in .ensures) ∙ not-false _ (c .if2 .left)) in
-    (leb-true 1 (s .args .self .cores .0) (room .0), leb-true (A (s .args .task)) (s .args .self .partitions .0) (room .1))
+    let room = both (leb 1 (s .args .self .cores .0)) _ (sym (e .fits-in .ensures) ∙ not-false _ (c .if2 .left)) in (
+      leb-true 1 (s .args .self .cores .0) (room .0),
+      leb-true (A (s .args .task)) (s .args .self .partitions .0) (room .1),
+    )
 
 returns-3 : tie.Need-returns-3
 returns-3 c =
     let e = c .before .before in
-    rw (sym (e .before .before .tries .ensures) ∙ not-false _ (e .before .if1 .left), sym (e .fits-in .ensures) ∙ not-false _ (c .before .if2 .left)) (c .go .ensures)
+    rw (
+      sym (e .before .before .tries .ensures) ∙ not-false _ (e .before .if1 .left),
+      sym (e .fits-in .ensures) ∙ not-false _ (c .before .if2 .left),
+    ) (c .go .ensures)
 
 pub begin-spec : {M : Type 1} → statement M
 begin-spec =

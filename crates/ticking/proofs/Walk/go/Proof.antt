@@ -37,7 +37,11 @@ task-bit-requires c κs = search needs
 returns : tie.Need-returns
 returns c =
     let h = c .before .before .before .before .before .before in
-    rw (h .choose .ensures, c .before .task-bit .ensures, left (h .before .args .self .idle) (h .before .args .task .a .0))
+    rw (
+      h .choose .ensures,
+      c .before .task-bit .ensures,
+      left (h .before .args .self .idle) (h .before .args .task .a .0),
+    )
 
 pub go-spec : {M : Type 1} → statement M
 go-spec =

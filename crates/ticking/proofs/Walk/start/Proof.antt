@@ -20,7 +20,13 @@ size-requires c κs = search needs
 returns : tie.Need-returns
 returns c =
     let n = c .before .before in
-    rw (c .size .ensures, c .before .cores-less .ensures, n .none .ensures, n .before .without .ensures, n .before .before .below .ensures)
+    rw (
+      c .size .ensures,
+      c .before .cores-less .ensures,
+      n .none .ensures,
+      n .before .without .ensures,
+      n .before .before .below .ensures,
+    )
 
 pub start-spec : {M : Type 1} → statement M
 start-spec =

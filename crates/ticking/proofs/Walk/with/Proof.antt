@@ -19,7 +19,8 @@ by-requires c κs = search needs
 returns : tie.Need-returns
 returns c =
     let l = c .before .before in
-    c .by .ensures ∙ rw (c .before .older-job .ensures) (walk-left _ _ _ _ _ (sym (l .before .is-left .ensures) ∙ l .if1 .taken) _)
+    c .by .ensures
+    ∙ rw (c .before .older-job .ensures) (walk-left _ _ _ _ _ (sym (l .before .is-left .ensures) ∙ l .if1 .taken) _)
 
 has-task-requires : tie.Need-has-task-requires
 has-task-requires c κs = search needs
@@ -29,8 +30,12 @@ finished-job-requires c κs = search needs
 
 late-with-requires : tie.Need-late-with-requires
 late-with-requires c κs =
-    let s = c .before .before .before .before in
-    (s .pre .1, s .pre .2, ap (λ (x : Job). x .age) (c .finished-job .ensures) ∙ finished-age (s .args .task) (c .before .has-task .result) (s .args .j))
+    let s = c .before .before .before .before in (
+      s .pre .1,
+      s .pre .2,
+      ap (λ (x : Job). x .age) (c .finished-job .ensures)
+          ∙ finished-age (s .args .task) (c .before .has-task .result) (s .args .j),
+    )
 
 has-task-requires-2 : tie.Need-has-task-requires-2
 has-task-requires-2 c κs = search needs
@@ -45,7 +50,14 @@ returns-2 : tie.Need-returns-2
 unfolding walkWith
 returns-2 c =
     let f = c .before .before .before .before in
-    rw (c .begin .ensures, c .before .released-job .ensures, c .before .before .has-task2 .ensures, c .before .before .before .late-with .ensures, f .finished-job .ensures, f .before .has-task .ensures)
+    rw (
+      c .begin .ensures,
+      c .before .released-job .ensures,
+      c .before .before .has-task2 .ensures,
+      c .before .before .before .late-with .ensures,
+      f .finished-job .ensures,
+      f .before .has-task .ensures,
+    )
 
 pub with-spec : {M : Type 1} → statement M
 with-spec =

@@ -68,7 +68,8 @@ returns-5 c =
     let s = c .before .before .before .before .before .before .before .before .before in
     rw (
       le-leb (s .args .j .age) (T (s .args .task)) (omega arith),
-      stage-none _ _ _ _ (sym (c .before .before .before .before .before .is-running .ensures) ∙ c .before .before .before .before .if2 .left)
+      stage-none _ _ _ _ (sym (c .before .before .before .before .before .is-running .ensures)
+          ∙ c .before .before .before .before .if2 .left)
           (sym (c .before .before .before .is-idle .ensures) ∙ c .before .before .if3 .left)
           (sym (c .before .is-waiting .ensures) ∙ c .if4 .left),
     )

@@ -11,12 +11,14 @@ has-nothing-requires c κs = search needs
 
 returns : tie.Need-returns
 returns c =
-    let e : hasNothing (c .before .before .args .j) ≡ false = sym (c .before .has-nothing .ensures) ∙ not-true _ (c .if1 .taken) in
+    let e : hasNothing (c .before .before .args .j) ≡ false =
+    sym (c .before .has-nothing .ensures) ∙ not-true _ (c .if1 .taken) in
     rw e
 
 returns-2 : tie.Need-returns-2
 returns-2 c =
-    let e : hasNothing (c .before .before .before .args .j) ≡ true = sym (c .before .before .has-nothing .ensures) ∙ not-false _ (c .before .if1 .left) in
+    let e : hasNothing (c .before .before .before .args .j) ≡ true =
+    sym (c .before .before .has-nothing .ensures) ∙ not-false _ (c .before .if1 .left) in
     rw e
 
 pub idles-well-spec : {M : Type 1} → statement M

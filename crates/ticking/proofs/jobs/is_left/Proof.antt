@@ -11,7 +11,8 @@ is-idle-requires c κs = search needs
 
 returns : tie.Need-returns
 returns c =
-    let e : isIdle (c .before .before .args .j .stage) ≡ false = sym (c .before .is-idle .ensures) ∙ not-true _ (c .if1 .taken) in
+    let e : isIdle (c .before .before .args .j .stage) ≡ false =
+    sym (c .before .is-idle .ensures) ∙ not-true _ (c .if1 .taken) in
     rw e
 
 has-task-requires : tie.Need-has-task-requires
@@ -19,7 +20,8 @@ has-task-requires c κs = search needs
 
 returns-2 : tie.Need-returns-2
 returns-2 c =
-    let e : isIdle (c .before .before .before .args .j .stage) ≡ true = sym (c .before .before .is-idle .ensures) ∙ not-false _ (c .before .if1 .left) in
+    let e : isIdle (c .before .before .before .args .j .stage) ≡ true =
+    sym (c .before .before .is-idle .ensures) ∙ not-false _ (c .before .if1 .left) in
     rw e (ap not (c .has-task .ensures))
 
 pub is-left-spec : {M : Type 1} → statement M

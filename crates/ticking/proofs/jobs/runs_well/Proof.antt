@@ -18,7 +18,10 @@ returns c =
 returns-2 : tie.Need-returns-2
 returns-2 c =
     let s = c .before .before .before .before .before in
-    rw (le-leb (s .args .j .ran) (C (s .args .task) - 1) (omega arith), lt-leb (s .args .j .ran) (s .args .j .age) (omega arith))
+    rw (
+      le-leb (s .args .j .ran) (C (s .args .task) - 1) (omega arith),
+      lt-leb (s .args .j .ran) (s .args .j .age) (omega arith),
+    )
 
 size-requires : tie.Need-size-requires
 size-requires c κs = search needs
@@ -26,7 +29,8 @@ size-requires c κs = search needs
 returns-3 : tie.Need-returns-3
 returns-3 c =
     let s = c .before .before .before .before .before .before .before .before .before in
-    let ne : size mostPartitions (s .args .j .held) ≡ A (s .args .task) → ⊥ = λ e. c .if3 .taken (ap (λ (x : Partitions). x .0) (c .before .before .before .size .ensures) ∙ e) in
+    let ne : size mostPartitions (s .args .j .held) ≡ A (s .args .task) → ⊥ =
+    λ e. c .if3 .taken (ap (λ (x : Partitions). x .0) (c .before .before .before .size .ensures) ∙ e) in
     rw (
       le-leb (s .args .j .ran) (C (s .args .task) - 1) (omega arith),
       le-leb (s .args .j .ran) (s .args .j .age) (omega arith),
@@ -42,7 +46,9 @@ without-requires c κs = search needs
 returns-4 : tie.Need-returns-4
 returns-4 c =
     let s = c .before .before .before .before .before .before .before .before .before .before .before in
-    let e : size mostPartitions (s .args .j .held) ≡ A (s .args .task) = sym (ap (λ (x : Partitions). x .0) (c .before .before .before .before .before .size .ensures)) ∙ c .before .before .if3 .left in
+    let e : size mostPartitions (s .args .j .held) ≡ A (s .args .task) =
+    sym (ap (λ (x : Partitions). x .0) (c .before .before .before .before .before .size .ensures))
+    ∙ c .before .before .if3 .left in
     let least : min (s .args .p .0) 64 ≡ s .args .p .0 = omega arith in
     rw (
       le-leb (s .args .j .ran) (C (s .args .task) - 1) (omega arith),

@@ -25,13 +25,21 @@ returns-2 : tie.Need-returns-2
 unfolding foundRefusal
 returns-2 c =
     let a = c .before .before in
-    rw (sym (a .before .before .finds-good .ensures) ∙ not-false _ (a .before .if1 .left), sym (a .first-above .ensures), ne-eqb _ _ (c .before .if2 .taken)) (c .refusal2 .ensures)
+    rw (
+      sym (a .before .before .finds-good .ensures) ∙ not-false _ (a .before .if1 .left),
+      sym (a .first-above .ensures),
+      ne-eqb _ _ (c .before .if2 .taken),
+    ) (c .refusal2 .ensures)
 
 returns-3 : tie.Need-returns-3
 unfolding foundRefusal
 returns-3 c =
     let a = c .before .before in
-    rw (sym (a .before .before .finds-good .ensures) ∙ not-false _ (a .before .if1 .left), sym (a .first-above .ensures), eq-eqb _ _ (c .before .if2 .left))
+    rw (
+      sym (a .before .before .finds-good .ensures) ∙ not-false _ (a .before .if1 .left),
+      sym (a .first-above .ensures),
+      eq-eqb _ _ (c .before .if2 .left),
+    )
 
 pub refusal-of-spec : {M : Type 1} → statement M
 refusal-of-spec =

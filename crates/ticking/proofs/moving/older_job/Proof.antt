@@ -12,7 +12,8 @@ runs-requires : tie.Need-runs-requires
 runs-requires c κs = search needs
 
 add-t6 : tie.Need-add-t6
-add-t6 c = omega (arith, c .before .runs .ensures, one-le (isRunning (c .before .before .before .before .args .j .stage)))
+add-t6 c =
+    omega (arith, c .before .runs .ensures, one-le (isRunning (c .before .before .before .before .args .j .stage)))
 
 returns : tie.Need-returns
 returns c = rw (c .before .before .older-age .ensures, c .before .runs .ensures, ran-on)

@@ -38,7 +38,8 @@ add-result c = search needs
 returns-2 : tie.Need-returns-2 Inv-loop μ-loop
 returns-2 c =
     let l = c .before .before .before in
-    above-found (l .before .before .before .args .x) (l .before .before .before .args .n) (l .loop .k) (l .loop .inv .0) (l .loop .inv .2) (search needs) (sym (c .before .has-task .ensures) ∙ c .if2 .taken)
+    above-found (l .before .before .before .args .x) (l .before .before .before .args .n) (l .loop .k) (l .loop .inv .0)
+    (l .loop .inv .2) (search needs) (sym (c .before .has-task .ensures) ∙ c .if2 .taken)
 
 add-k : tie.Need-add-k Inv-loop μ-loop
 add-k c = search needs
@@ -48,8 +49,12 @@ loop-less c = search needs
 
 loop-again : tie.Need-loop-again Inv-loop μ-loop
 loop-again c =
-    let l = c .before .before .before in
-    (search needs, search needs, above-past (l .before .before .before .args .x) (l .before .before .before .args .n) (l .loop .k) (l .loop .inv .0) (l .loop .inv .2) (sym (c .before .has-task .ensures) ∙ c .if2 .left))
+    let l = c .before .before .before in (
+      search needs,
+      search needs,
+      above-past (l .before .before .before .args .x) (l .before .before .before .args .n) (l .loop .k)
+          (l .loop .inv .0) (l .loop .inv .2) (sym (c .before .has-task .ensures) ∙ c .if2 .left),
+    )
 
 returns-3 : tie.Need-returns-3 Inv-loop μ-loop
 returns-3 c =

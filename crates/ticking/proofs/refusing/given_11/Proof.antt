@@ -11,7 +11,8 @@ is-running-requires c κs = search needs
 
 returns : tie.Need-returns
 returns c =
-    let e : isRunning (c .before .before .args .j .stage) ≡ false = sym (c .before .is-running .ensures) ∙ not-true _ (c .if1 .taken) in
+    let e : isRunning (c .before .before .args .j .stage) ≡ false =
+    sym (c .before .is-running .ensures) ∙ not-true _ (c .if1 .taken) in
     rw e
 
 add-if2 : tie.Need-add-if2
@@ -20,13 +21,15 @@ add-if2 c = search needs
 returns-2 : tie.Need-returns-2
 returns-2 c =
     let l = c .before .before .before in
-    let e : isRunning (l .before .before .args .j .stage) ≡ true = sym (l .before .is-running .ensures) ∙ not-false _ (l .if1 .left) in
+    let e : isRunning (l .before .before .args .j .stage) ≡ true =
+    sym (l .before .is-running .ensures) ∙ not-false _ (l .if1 .left) in
     rw (e, ne-eqb _ _ (c .if2 .taken))
 
 returns-3 : tie.Need-returns-3
 returns-3 c =
     let l = c .before .before .before in
-    let e : isRunning (l .before .before .args .j .stage) ≡ true = sym (l .before .is-running .ensures) ∙ not-false _ (l .if1 .left) in
+    let e : isRunning (l .before .before .args .j .stage) ≡ true =
+    sym (l .before .is-running .ensures) ∙ not-false _ (l .if1 .left) in
     rw (e, eq-eqb _ _ (c .if2 .left))
 
 pub given-11-spec : {M : Type 1} → statement M

@@ -13,7 +13,10 @@ given-11-requires : tie.Need-given-11-requires
 given-11-requires c κs = search needs
 
 returns-2 : tie.Need-returns-2
-returns-2 c = rw (sym (c .before .before .before .given-10 .ensures) ∙ c .before .before .if1 .left, sym (c .before .given-11 .ensures) ∙ c .if2 .taken)
+returns-2 c = rw (
+  sym (c .before .before .before .given-10 .ensures) ∙ c .before .before .if1 .left,
+  sym (c .before .given-11 .ensures) ∙ c .if2 .taken,
+)
 
 given-12-requires : tie.Need-given-12-requires
 given-12-requires c κs = search needs

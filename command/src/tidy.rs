@@ -10,7 +10,7 @@ use std::path::{Path, PathBuf};
 /// The texts of a unit, in the order in which the programs read them.
 const TEXTS: [&str; 3] = ["platform.csv", "tasks.csv", "reports.csv"];
 
-/// More than this is no text of a unit: a program takes 60,000 bytes, in UTF-16 twice as many and its mark.
+/// Far more than a text of a unit has: a program takes 60,000 bytes, which in UTF-16 are twice as many.
 const LONGEST: u64 = 1_000_000;
 
 const COPIED: u8 = 0;

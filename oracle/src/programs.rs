@@ -207,9 +207,9 @@ mod tests {
     #[test]
     fn explain_refuses_what_admit_refuses() {
         let (two, t) = (platform(2, 4), tasks(&P1));
-        let texts: [(Option<&[u8]>, Option<&[u8]>); 4] =
-            [(None, Some(&t)), (Some(&two), None), (Some(b"cores"), Some(b"x")), (Some(&two), Some(b""))];
-        for (p, t) in texts {
+        let texts: [[Option<&[u8]>; 2]; 4] =
+            [[None, Some(&t)], [Some(&two), None], [Some(b"cores"), Some(b"x")], [Some(&two), Some(b"")]];
+        for [p, t] in texts {
             assert_eq!(explain(p, t), admit(p, t));
             assert!(adds_up(p, t, &admit(p, t), &explain(p, t)));
         }

@@ -1,24 +1,24 @@
--- Time can always go on: in a good state a report is accepted that releases nothing and finishes exactly the jobs that,
--- step 1 counted, have run C ticks.
-use Prim.Native.Nat.{ℕ, zero, suc, _-_, _<_, _≤_}
-use mathlib.Core.Path.{_≡_, refl, _∙_, ap}
-use mathlib.Core.Bool.{Bool, true, false, not, _&&_, _||_, and-false}
+-- Time can always go on: in a good state a report is accepted that finishes exactly the jobs that, step 1 counted, have
+-- run C ticks, and releases tasks that are due and idle; or none.
+use Prim.Native.Nat.{ℕ, zero, suc, _<_, _≤_}
+use mathlib.Core.Path.{_≡_, refl, sym, _∙_, ap}
+use mathlib.Core.Bool.{Bool, true, false, not, _&&_, _||_, and-false, true≢false}
+use mathlib.Core.Logic.{_≢_}
 use native.Mathlib.Decide.{decLe}
 use native.Mathlib.Omega.{arith}
-use borrow.Author.Tests.{eq-eqb, le-ltb}
+use borrow.Author.Tests.{eq-eqb, le-ltb, ltb-true}
 use lib.Dec.{ltb, eqb}
 use Rattle.maths.specs.Tasks.{Each}
+use Rattle.maths.proofs.Tests.{false-of}
 use Rattle.table.specs.declared.Refusal.{Refusal}
 use Rattle.table.specs.Limits.{mostTasks}
-use Rattle.table.specs.Tasks.{τ, C}
-use Rattle.sets.specs.Sets.{has}
+use Rattle.table.specs.Tasks.{τ, T, C}
 use Rattle.sets.specs.TaskSets.{hasTask, tasksWhere}
-use Rattle.sets.proofs.Bits.{bit-zero, bit-none}
-use Rattle.sets.proofs.Wheres.{where-above, tasks-has}
+use Rattle.sets.proofs.Wheres.{tasks-has, tasks-above, task-none}
 use Rattle.machine.specs.declared.Job.{Job}
 use Rattle.machine.specs.declared.Machine.{Machine}
-use Rattle.machine.specs.Jobs.{isRunning, job, runs}
-use Rattle.machine.specs.Steps.{passed}
+use Rattle.machine.specs.Jobs.{isRunning, job, idles, runs}
+use Rattle.machine.specs.Steps.{passed, finish}
 use Rattle.machine.specs.Tick.{tickRules, tickRefusal, accepted}
 use Rattle.machine.proofs.StateParts.{GoodState}
 use Rattle.machine.proofs.StateTest.{state-test}
@@ -31,17 +31,6 @@ over m k = runs m k && eqb (job (passed m) k .ran) (C (τ (m .table) k))
 abbrev pub overSet : Machine → ℕ
 overSet m = tasksWhere (over m) (m .table .n)
 
--- nobody is in the empty set, or in one that is made of tasks 1 to n and has a higher number
-has-none : (x k : ℕ) → has x (k - 1) ≡ false → hasTask x k ≡ false
-has-none x k e = rw e (and-false (ltb 0 k))
-
-nobody : (k : ℕ) → hasTask 0 k ≡ false
-nobody k = has-none 0 k (bit-none 0 (k - 1) (bit-zero (k - 1)))
-
-past : (f : ℕ → Bool) (n k : ℕ) → n < k → hasTask (tasksWhere f n) k ≡ false
-past f n k l = has-none (tasksWhere f n) k
-    (bit-none (tasksWhere f n) (k - 1) (where-above (λ i. f (suc i)) n (k - 1) (omega arith)))
-
 fails-10 : (a b : Bool) → a && b && not a ≡ false
 fails-10 true b = and-false b
 fails-10 false b = refl
@@ -50,6 +39,17 @@ fails-11 : (a b : Bool) → a && b && not (a && b) ≡ false
 fails-11 true true = refl
 fails-11 true false = refl
 fails-11 false b = refl
+
+-- a test that fails where the first does not
+unless : (a b : Bool) → (a ≡ true → b ≡ false) → a && b ≡ false
+unless true b h = h refl
+unless false b h = refl
+
+-- What is asked of the released tasks, that neither 9, 12 nor 13 is given.
+pub record Releasable (m : Machine) (R : ℕ) : Type 0 where
+  pub inTable : Each mostTasks (λ k. hasTask R k ≡ true → k ≤ m .table .n)
+  pub due : Each mostTasks (λ k. hasTask R k ≡ true → T (τ (m .table) k) ≤ job (passed m) k .age)
+  pub free : Each mostTasks (λ k. hasTask R k ≡ true → idles (finish (overSet m) (passed m)) k ≡ true)
 
 module _ (m : Machine) (g : GoodState m) where
   abbrev n : ℕ
@@ -66,18 +66,11 @@ module _ (m : Machine) (g : GoodState m) where
   rests zero l h = absurd (omega arith)
   rests (suc i) l h = ap (λ (j : Job). isRunning (j .stage)) (g .noJobs i (omega arith) h)
 
-  no-9 : Each mostTasks (λ k. ltb n k && (hasTask 0 k || hasTask F k) ≡ false)
-  no-9 k l h =
-      elim (decLe k n) [
-        | yes d ↦ rw (le-ltb n k d)
-        | no d ↦ rw (nobody k, past (over m) n k (omega arith)) (and-false (ltb n k))
-      ]
-
   no-10 : Each mostTasks (λ k. hasTask F k && not (runs m k) ≡ false)
   no-10 k l h =
       elim (decLe k n) [
         | yes d ↦ rw (in-F k l d) (fails-10 (runs m k) (eqb (job (passed m) k .ran) (C (τ (m .table) k))))
-        | no d ↦ rw (past (over m) n k (omega arith))
+        | no d ↦ rw (tasks-above (over m) n k (omega arith))
       ]
 
   no-11 : Each mostTasks (λ k. over m k && not (hasTask F k) ≡ false)
@@ -87,17 +80,44 @@ module _ (m : Machine) (g : GoodState m) where
         | no d ↦ rw (rests k (omega arith) h)
       ]
 
-  not-refused : tickRefusal m 0 F .number ≡ 0
-  unfolding tickRefusal tickRules
-  not-refused =
-      rw (state-test m g)
-      (ap (λ (r : Refusal). r .number)
-      (passed-over _ _ (none-of _ no-9)
-      ∙ (passed-over _ _ (none-of _ no-10)
-      ∙ (passed-over _ _ (none-of _ no-11)
-      ∙ (passed-over _ _ (none-of _ (λ k l h. rw (nobody k)))
-      ∙ passed-over _ _ (none-of _ (λ k l h. rw (nobody k)))))))
-      ∙ none-given)
+  module _ (R : ℕ) (ready : Releasable m R) where
+    no-9 : Each mostTasks (λ k. ltb n k && (hasTask R k || hasTask F k) ≡ false)
+    no-9 k l h = unless (ltb n k) _ (λ e. past-n (ltb-true n k e))
+      where
+        past-n : n < k → hasTask R k || hasTask F k ≡ false
+        past-n p =
+            let out : hasTask R k ≡ false = false-of (hasTask R k) (λ e. omega (arith, ready .inTable k l h e)) in
+            rw (out, tasks-above (over m) n k p)
+
+    no-12 : Each mostTasks (λ k. hasTask R k && ltb (job (passed m) k .age) (T (τ (m .table) k)) ≡ false)
+    no-12 k l h = unless (hasTask R k) _ (λ e. le-ltb _ _ (ready .due k l h e))
+
+    no-13 : Each mostTasks (λ k. hasTask R k && not (idles (finish F (passed m)) k) ≡ false)
+    no-13 k l h = unless (hasTask R k) _ (λ e. ap not (ready .free k l h e))
+
+    not-refused : tickRefusal m R F .number ≡ 0
+    unfolding tickRefusal tickRules
+    not-refused =
+        rw (state-test m g)
+        (ap (λ (r : Refusal). r .number)
+        (passed-over _ _ (none-of _ no-9)
+        ∙ (passed-over _ _ (none-of _ no-10)
+        ∙ (passed-over _ _ (none-of _ no-11)
+        ∙ (passed-over _ _ (none-of _ no-12)
+        ∙ passed-over _ _ (none-of _ no-13)))))
+        ∙ none-given)
+
+    pub goes-with : accepted m R F ≡ true
+    goes-with = eq-eqb _ 0 not-refused
+
+  nothing : Releasable m 0
+  nothing =
+      let no-one : (k : ℕ) → hasTask 0 k ≢ true = λ k e. true≢false (sym e ∙ task-none k) in
+      record {
+        inTable = λ k l h e. absurd (no-one k e);
+        due = λ k l h e. absurd (no-one k e);
+        free = λ k l h e. absurd (no-one k e);
+      }
 
   pub goes-on : accepted m 0 F ≡ true
-  goes-on = eq-eqb _ 0 not-refused
+  goes-on = goes-with 0 nothing

@@ -1,6 +1,6 @@
 -- In a good state the idle partitions are those of the platform less A for each job that runs; and each running job is
 -- counted once.
-use Prim.Native.Nat.{ℕ, suc, _-_, _*_}
+use Prim.Native.Nat.{ℕ, suc, _-_, _*_, _≤_}
 use mathlib.Core.Path.{_≡_, refl, sym, _∙_}
 use mathlib.Core.Bool.{Bool, true, false}
 use native.Mathlib.Omega.{arith}
@@ -10,7 +10,7 @@ use Rattle.table.specs.declared.Task.{Task}
 use Rattle.table.specs.Limits.{mostPartitions}
 use Rattle.table.specs.Tasks.{P, τ, A}
 use Rattle.sets.specs.Sets.{size}
-use Rattle.sets.proofs.Sizes.{size-zero, size-idle}
+use Rattle.sets.proofs.Sizes.{size-zero, size-le, size-wide, size-idle}
 use Rattle.sets.proofs.Unions.{union-size}
 use Rattle.machine.specs.declared.Job.{Job}
 use Rattle.machine.specs.declared.Machine.{Machine}
@@ -42,6 +42,15 @@ module _ {m : Machine} (g : GoodState m) where
   pub idle-partitions : idlePartitions m .0 ≡ P (m .table) - heldCount m
   idle-partitions =
       size-idle mostPartitions (P (m .table)) (busy m) (g .table .sizes .partitions) (busy-lt g) ∙ rw busy-size
+
+  pub held-most : heldCount m ≤ P (m .table)
+  held-most =
+      omega (
+        arith,
+        busy-size,
+        size-wide (P (m .table)) mostPartitions (busy m) (busy-lt g) (g .table .sizes .partitions),
+        size-le (P (m .table)) (busy m),
+      )
 
 pub running-jobs : (m : Machine) → running m ≡ Σ (m .table .n) (λ k. runs (life (job m k)))
 unfolding running

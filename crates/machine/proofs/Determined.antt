@@ -2,6 +2,9 @@
 use mathlib.Core.Path.{_≡_}
 use mathlib.Core.Bool.{Bool}
 use Rattle.maths.proofs.Determined.{determined}
+use Rattle.table.specs.declared.Cores.{Cores}
+use Rattle.table.specs.declared.Partitions.{Partitions}
+use Rattle.table.specs.declared.Task.{Task}
 use Rattle.table.specs.declared.Table.{Table}
 use Rattle.machine.specs.declared.Stage.{Stage}
 use Rattle.machine.specs.declared.Job.{Job}
@@ -9,6 +12,7 @@ use Rattle.machine.specs.declared.Machine.{Machine}
 use Rattle.machine.specs.declared.SetUp.{SetUp}
 use Rattle.machine.specs.Jobs.{isIdle, isWaiting, isRunning, noJob}
 use Rattle.machine.specs.Fresh.{fresh, setUp}
+use Rattle.machine.specs.Steps.{fitsIn}
 
 pub is-idle-determined : (x : Stage) (r s : Bool) → r ≡ isIdle x → s ≡ isIdle x → r ≡ s
 is-idle-determined x = determined (isIdle x)
@@ -21,6 +25,10 @@ is-running-determined x = determined (isRunning x)
 
 pub none-determined : (r s : Job) → r ≡ noJob → s ≡ noJob → r ≡ s
 none-determined = determined noJob
+
+pub fits-in-determined : (cores : Cores) (partitions : Partitions) (τ : Task) (r s : Bool)
+    → r ≡ fitsIn cores partitions τ → s ≡ fitsIn cores partitions τ → r ≡ s
+fits-in-determined cores partitions τ = determined (fitsIn cores partitions τ)
 
 pub fresh-determined : (t : Table) (r s : Machine) → r ≡ fresh t → s ≡ fresh t → r ≡ s
 fresh-determined t = determined (fresh t)

@@ -1,8 +1,14 @@
-// The machine: a table and the job of each task, and what a tick answers.
+// The machine: a table and the job of each task, what a tick answers, and what a start asks.
+ghost use mathlib.Core.Path.{_≡_};
+ghost use Rattle.machine.specs.Steps.{fitsIn};
+
 mod state;
 
+use table::Cores;
+use table::Partitions;
 use table::Refusal;
 use table::Table;
+use table::Task;
 
 // 0 idle, 1 waiting, 2 running; no good state has another.
 #[repr(C)]
@@ -40,4 +46,14 @@ pub struct Answer {
 pub struct Ticked {
     pub machine: Machine,
     pub answer: Answer,
+}
+
+// At least one core and A partitions are idle.
+pub fn fits_in(cores: Cores, partitions: Partitions, task: Task) -> bool
+    ensures { λ r. ⌜ r ≡ fitsIn cores partitions task ⌝ }
+{
+    if cores.0 < 1 {
+        return false;
+    }
+    task.a.0 <= partitions.0
 }

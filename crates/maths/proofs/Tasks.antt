@@ -28,7 +28,7 @@ pub lowest-more : (f : ℕ → Bool) (n : ℕ) → lowest (n + 1) f ≡ orElse (
 unfolding lowest
 lowest-more f n = rw (add-one n)
 
-or-zero : (x : ℕ) → orElse x 0 ≡ x
+pub or-zero : (x : ℕ) → orElse x 0 ≡ x
 or-zero zero = refl
 or-zero (suc x) = refl
 

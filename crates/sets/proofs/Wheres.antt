@@ -10,6 +10,7 @@ use borrow.Author.Tests.{lt-ltb, le-ltb}
 use lib.Bits.{bitOr, or-shifted-r}
 use lib.Dec.{lit<}
 use lib.Pow.{shl-exact}
+use Rattle.maths.specs.Tasks.{Each}
 use Rattle.table.specs.Limits.{mostTasks}
 use Rattle.sets.specs.Sets.{bit, has, setWhere}
 use Rattle.sets.specs.TaskSets.{hasTask, taskBit, tasksWhere}
@@ -128,3 +129,17 @@ pub tasks-has : (f : ℕ → Bool) (n k : ℕ) → 0 < k → k ≤ n → hasTask
 tasks-has f n k h l =
     let e : suc (k - 1) ≡ k = omega arith in
     rw (lt-ltb 0 k h) (where-has (λ j. f (suc j)) n (k - 1) (omega arith) ∙ ap f e)
+
+-- nobody is in the empty set, nor one above n in a set of tasks 1 to n, which is empty where it has none of these
+pub task-none : (k : ℕ) → hasTask 0 k ≡ false
+task-none zero = refl
+task-none (suc i) = task-above 0 0 (suc i) (lit< tt) (omega arith)
+
+pub tasks-above : (f : ℕ → Bool) (n k : ℕ) → n < k → hasTask (tasksWhere f n) k ≡ false
+tasks-above f n k l = task-above n (tasksWhere f n) k (where-lt (λ i. f (suc i)) n) l
+
+pub tasks-none : (f : ℕ → Bool) (n : ℕ) → Each n (λ k. hasTask (setWhere f n) k ≡ false) → setWhere f n ≡ 0
+tasks-none f n h =
+    where-empty f n
+    (λ i l. sym (where-has f n i l)
+    ∙ (sym (has-task (setWhere f n) i) ∙ rw add-one (h (suc i) (omega arith) l)))

@@ -39,7 +39,7 @@ pub record Pass (r : Machine) (w : ℕ → Walk) (late : ℕ → ℕ) : Type 0 w
       → w (suc i) ≡ walkBegin (suc i) (τ (r .table) (suc i)) (job r (suc i)) (late i) (w i)
 
 module _ (r : Machine) (w : ℕ → Walk) (late : ℕ → ℕ) (p : Pass r w late) where
-  at : (i : ℕ) → i ≤ r .table .n → At r w late i
+  pub at : (i : ℕ) → i ≤ r .table .n → At r w late i
   at zero l = at-none r w late (p .entries) (p .goes) (p .cores) (p .idle) (p .partitions) (p .none)
   at (suc i) l = by (tries (job r (suc i)) (w i)) refl (hasRoom (τ (r .table) (suc i)) (w i)) refl
       (at i (omega arith)) (p .turn i l)

@@ -39,7 +39,7 @@ struct Past {
 
 // What a tick's second pass made so far: the job that it came to last; whether step 5 goes on, with how many idle
 // cores, which idle partitions and how many; and the sets to answer.
-struct Walk {
+pub struct Walk {
     job: Job,
     goes: bool,
     cores: Cores,

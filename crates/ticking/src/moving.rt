@@ -5,7 +5,7 @@ ghost use Prim.Native.Nat.{_+_, _≤_, min};
 ghost use Rattle.table.specs.Limits.{longestPeriod};
 ghost use Rattle.table.specs.Tasks.{D, T};
 ghost use Rattle.machine.specs.Jobs.{isRunning};
-ghost use Rattle.machine.specs.Steps.{older, awaiting, fitsIn};
+ghost use Rattle.machine.specs.Steps.{older, awaiting};
 ghost use Rattle.machine.specs.Code.Readied.{finishedJob};
 ghost use Rattle.ticking.specs.Code.Passes.{coresLess, walkStart, isLate, tries, walkGo, walkBy, walkBegin};
 ghost use Rattle.ticking.specs.Code.Passes.{lateWith, walkWith};
@@ -110,16 +110,6 @@ fn cores_less(cores: Cores, busy: Cores) -> Cores
     Cores(cores.0 - busy.0)
 }
 
-// At least one core and A partitions are idle.
-fn fits_in(cores: Cores, partitions: Partitions, task: Task) -> bool
-    ensures { λ r. ⌜ r ≡ fitsIn cores partitions task ⌝ }
-{
-    if cores.0 < 1 {
-        return false;
-    }
-    task.a.0 <= partitions.0
-}
-
 impl Walk {
     pub(crate) fn start(platform: Platform, look: Look) -> Walk
         ensures { λ r. ⌜ r ≡ walkStart platform look ⌝ }
@@ -187,7 +177,7 @@ impl Walk {
         if !self.tries(j) {
             return self.by(self.goes, j, late);
         }
-        if !fits_in(self.cores, self.partitions, task) {
+        if !machine::fits_in(self.cores, self.partitions, task) {
             return self.by(false, j, late);
         }
         self.go(k, task, j, late)

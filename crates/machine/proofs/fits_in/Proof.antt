@@ -1,6 +1,6 @@
 use borrow.Author.Tests.{le-leb, lt-leb}
-use Rattle.ticking.proofs.moving.fits_in.Statement.{statement}
-use Rattle.ticking.proofs.moving.fits_in.Tie as tie
+use Rattle.machine.proofs.fits_in.Statement.{statement}
+use Rattle.machine.proofs.fits_in.Tie as tie
 
 returns : tie.Need-returns
 returns c = rw (lt-leb _ _ (c .if1 .taken))

@@ -1,0 +1,4 @@
+pub mod Euclid
+pub mod Multiples
+pub mod Determined
+pub mod Within

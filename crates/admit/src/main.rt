@@ -3,34 +3,23 @@
 ghost use mathlib.Core.Path.{_≡_};
 ghost use Rattle.table.specs.Refused.{noRefusal};
 ghost use Rattle.files.specs.Got.{Whole};
-use files::File;
+use files::ROOM;
 use libc::STDOUT_FILENO;
 use writers::Written;
 
-// One byte more than the longest text that a program takes.
-const ROOM: usize = texts::LONGEST + 1;
-
 const LISTING: usize = texts::ADMIT_MOST;
-
-// Arrays are lent at their length: the prover would count out one that the function itself makes.
-fn read_text(path: &[u8], buf: &mut [u8; ROOM]) -> File
-    ensures { λ r. ⌜ Whole (r .length) (now (buf .exit)) ⌝ }
-{
-    files::read_file(path, buf)
-}
 
 // What the files give, and how long it is. The buffer is never too short.
 fn put_listing(out: &mut [u8; LISTING]) -> Written
     ensures { λ r. ⌜ (r .refused ≡ noRefusal) × Whole (r .length) (now (out .exit)) ⌝ }
 {
     let mut platform = [0u8; ROOM];
-    let p = read_text(b"platform.csv", &mut platform);
     let mut tasks = [0u8; ROOM];
-    let t = read_text(b"tasks.csv", &mut tasks);
-    let p_there = p.there;
-    let p_length = p.length;
-    let t_there = t.there;
-    let t_length = t.length;
+    let f = files::read_table(&mut platform, &mut tasks);
+    let p_there = f.platform.there;
+    let p_length = f.platform.length;
+    let t_there = f.tasks.there;
+    let t_length = f.tasks.length;
     texts::admit(
         p_there,
         &platform[..p_length],

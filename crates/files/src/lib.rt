@@ -67,3 +67,25 @@ pub fn read_file(path: &[u8], buf: &mut [u8]) -> File
     libc::close(fd);
     f
 }
+
+// One byte more than the longest text that a program takes.
+pub const ROOM: usize = texts::LONGEST + 1;
+
+pub struct TableFiles {
+    pub platform: File,
+    pub tasks: File,
+}
+
+// The two texts of a table. Arrays are lent at their length: the prover would count out one that a function itself
+// makes.
+pub fn read_table(platform: &mut [u8; ROOM], tasks: &mut [u8; ROOM]) -> TableFiles
+    ensures { λ r.
+        ⌜ Whole (r .platform .length) (now (platform .exit)) × Whole (r .tasks .length) (now (tasks .exit)) ⌝ }
+{
+    let p = read_file(b"platform.csv", platform);
+    let t = read_file(b"tasks.csv", tasks);
+    TableFiles {
+        platform: p,
+        tasks: t,
+    }
+}

@@ -6,20 +6,18 @@ use mathlib.Core.List.{List}
 use native.Mathlib.Omega.{arith}
 use lib.Dec.{eqb}
 use lib.ListN.{length}
-use Rattle.maths.proofs.Padded.{length-padded}
-use Rattle.forms.specs.Forms.{platformForm, tasksForm, ticksForm}
+use Rattle.forms.specs.Forms.{ticksForm}
 use Rattle.forms.specs.Reads.{Answer, found, refused}
 use Rattle.forms.proofs.Sizes.{text-least}
 use Rattle.forms.proofs.Theorem.{written}
 use Rattle.table.specs.declared.Table.{Table}
 use Rattle.table.specs.Limits.{mostTasks}
 use Rattle.table.specs.Refused.{refusal}
-use Rattle.table.specs.Tasks.{noTask}
 use Rattle.machine.specs.Fresh.{fresh}
 use Rattle.writers.specs.Outputs.{refusedText}
-use Rattle.texts.specs.Given.{given, taken}
+use Rattle.texts.specs.Given.{taken}
 use Rattle.texts.proofs.Given.{taken-found}
-use Rattle.texts.proofs.Sizes.{bad-most, table-most}
+use Rattle.texts.proofs.Sizes.{bad-most, table-most, listed-most}
 use Rattle.runs.specs.Ticks.{runText, ran, ticksText, ticksMost, TicksFit}
 use Rattle.runs.proofs.Widths.{rows-most}
 
@@ -44,11 +42,6 @@ module _ (there : Bool) (bytes : List ℕ) where
 
 pub ticks-fit : TicksFit
 unfolding ticksText
-ticks-fit pThere p tThere t kThere k = go (taken platformForm pThere p) refl (taken tasksForm tThere t) refl
-  where
-    go : (x : Answer (List (List ℕ))) → taken platformForm pThere p ≡ x → (y : Answer (List (List ℕ)))
-        → taken tasksForm tThere t ≡ y → length (given refusedText (ran (taken ticksForm kThere k)) x y) ≤ ticksMost
-    go (refused n) e y f = omega (arith, bad-most platformForm pThere p n e)
-    go (found rows) e (refused n) f = omega (arith, bad-most tasksForm tThere t n f)
-    go (found rows) e (found more) f =
-        ran-fits kThere k _ (length-padded noTask mostTasks _) (taken ticksForm kThere k) refl
+ticks-fit pThere p tThere t kThere k =
+    let reports = taken ticksForm kThere k in
+    listed-most (ran reports) ticksMost (omega arith) (λ t len. ran-fits kThere k t len reports refl) pThere p tThere t

@@ -6,7 +6,7 @@ use mathlib.Core.Bool.{Bool, cond}
 use mathlib.Core.List.{List, [], _∷_}
 use lib.Dec.{eqb}
 use lib.ListN.{length}
-use Rattle.forms.specs.Forms.{platformForm, tasksForm, ticksForm}
+use Rattle.forms.specs.Forms.{ticksForm}
 use Rattle.forms.specs.Reads.{Answer, found, refused}
 use Rattle.table.specs.declared.Refusal.{Refusal}
 use Rattle.table.specs.declared.Table.{Table}
@@ -18,7 +18,7 @@ use Rattle.machine.specs.Tick.{tick}
 use Rattle.readers.specs.declared.Tick.{Tick}
 use Rattle.readers.specs.Inputs.{badText, tickOf, firstTick}
 use Rattle.writers.specs.Outputs.{listing, refusedText}
-use Rattle.texts.specs.Given.{given, longest, taken}
+use Rattle.texts.specs.Given.{listed, longest, taken}
 
 abbrev pub tickWith : Machine → Tick → Ticked
 tickWith m report = tick m (report .released) (report .finished)
@@ -48,10 +48,7 @@ ran (found rows) t = cond (unrefused t) (runText (fresh t) rows) (refusedText (r
 
 unfoldable pub ticksText : Bool → List ℕ → Bool → List ℕ → Bool → List ℕ → List ℕ
 ticksText platformThere platform tasksThere tasks ticksThere ticks =
-    given refusedText
-    (ran (taken ticksForm ticksThere ticks))
-    (taken platformForm platformThere platform)
-    (taken tasksForm tasksThere tasks)
+    listed (ran (taken ticksForm ticksThere ticks)) platformThere platform tasksThere tasks
 
 -- A listing of so many ticks is no longer: a header of 36 bytes, and five numbers of at most 20 digits, four commas and
 -- CR LF for each.

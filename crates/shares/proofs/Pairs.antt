@@ -2,15 +2,13 @@
 use Prim.Native.Nat.{ℕ, suc, _+_, _*_, _/_, _%_, _<_, _≤_}
 use mathlib.Core.Path.{_≡_, refl, sym, ap, _∙_}
 use mathlib.Core.Bool.{true}
-use mathlib.Core.List.{List, [], _∷_, _++_, append-assoc}
+use mathlib.Core.List.{List, [], _∷_, _++_}
 use native.Mathlib.Nat.{div-add-mod', div-lt-iff-lt-mul, mod-lt}
 use native.Mathlib.Numerals.{add-one}
 use native.Mathlib.Omega.{arith}
 use borrow.Author.Tests.{le-leb, eqb-true}
-use lib.ListN.{length, drop, getD, drop-of-length-le}
-use lib.Seq.{drop-cons}
-use Rattle.forms.specs.Bytes.{bytes}
-use Rattle.forms.specs.Forms.{crlf, line, lines}
+use lib.ListN.{length, getD}
+use Rattle.forms.specs.Forms.{line}
 use Rattle.table.specs.declared.Table.{Table}
 use Rattle.table.specs.Limits.{mostTasks}
 use Rattle.table.specs.Refused.{unrefused}
@@ -19,34 +17,26 @@ use Rattle.table.proofs.Good.{good-sizes, sizes-unrefused}
 use Rattle.admission.specs.declared.Share.{Share}
 use Rattle.admission.specs.Shares.{isTask, shareIn, shareAnswer}
 use Rattle.admission.proofs.Shares.{share-found}
-use Rattle.writers.specs.Outputs.{listing}
+use Rattle.texts.proofs.Listings.{headerOf, linesFrom, listing-split, lines-more, lines-end}
 use Rattle.shares.specs.Explain.{pairRow, pairRows, pairsText}
 use Rattle.shares.proofs.Grids.{length-grid, getD-grid}
 
 abbrev pub header : List ℕ
-header = bytes "task,other,interference,weight,share" ++ crlf
+header = headerOf "task,other,interference,weight,share"
 
--- the text of the rows at a place and on
-abbrev pub linesFrom : Table → ℕ → List ℕ
-linesFrom t at = lines (drop at (pairRows t))
+abbrev pub pairsFrom : Table → ℕ → List ℕ
+pairsFrom t = linesFrom (pairRows t)
 
-pub pairs-split : (t : Table) → pairsText t ≡ header ++ linesFrom t 0
-unfolding listing
-pairs-split t = sym (append-assoc (bytes "task,other,interference,weight,share") crlf (linesFrom t 0))
+pub pairs-split : (t : Table) → pairsText t ≡ header ++ pairsFrom t 0
+pairs-split t = listing-split (pairRows t) "task,other,interference,weight,share"
 
 module _ (t : Table) (at : ℕ) where
   pub pairs-more : at < t .n * t .n → (numbers : List ℕ) → numbers ≡ getD (pairRows t) at []
-      → linesFrom t at ≡ line numbers ++ linesFrom t (at + 1)
-  unfolding lines
-  pairs-more l numbers e =
-      let size = length-grid (pairRow t) (t .n) (t .n) in
-      rw (drop-cons (pairRows t) at [] (omega arith), e, add-one)
+      → pairsFrom t at ≡ line numbers ++ pairsFrom t (at + 1)
+  pairs-more l = lines-more (pairRows t) at (omega (arith, length-grid (pairRow t) (t .n) (t .n)))
 
-  pub pairs-end : t .n * t .n ≤ at → linesFrom t at ≡ []
-  unfolding lines
-  pairs-end h =
-      let size = length-grid (pairRow t) (t .n) (t .n) in
-      rw (drop-of-length-le (pairRows t) {i = at} (omega arith))
+  pub pairs-end : t .n * t .n ≤ at → pairsFrom t at ≡ []
+  pairs-end h = lines-end (pairRows t) at (omega (arith, length-grid (pairRow t) (t .n) (t .n)))
 
 -- a table that is not refused has from 1 to 32 tasks
 module _ (t : Table) (e : unrefused t ≡ true) where

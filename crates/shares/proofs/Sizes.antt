@@ -9,35 +9,27 @@ use borrow.Author.Tests.{eqb-true}
 use lib.Dec.{lit<}
 use lib.ListN.{length, length-append}
 use Rattle.maths.specs.Tasks.{tabulate}
-use Rattle.maths.proofs.Padded.{length-padded}
-use Rattle.forms.specs.Forms.{line, lines, platformForm, tasksForm}
-use Rattle.forms.specs.Reads.{Answer, found, refused}
-use Rattle.forms.proofs.Lines.{lines-snoc}
+use Rattle.forms.specs.Forms.{line, lines}
 use Rattle.table.specs.declared.Table.{Table}
 use Rattle.table.specs.Limits.{mostTasks}
 use Rattle.table.specs.Refused.{refusal, unrefused}
-use Rattle.table.specs.Tasks.{noTask}
 use Rattle.table.specs.Good.{Good}
 use Rattle.table.proofs.Good.{good-of}
 use Rattle.admission.specs.Test.{interference}
 use Rattle.admission.proofs.Bounds.{row-good, interference-le, weight-le, term-le, B-le, S-le}
 use Rattle.writers.specs.Outputs.{refusedText}
 use Rattle.writers.proofs.Listings.{row-most}
-use Rattle.texts.specs.Given.{given, taken}
-use Rattle.texts.proofs.Sizes.{bad-most, table-most}
+use Rattle.texts.proofs.Listings.{lines-none, lines-most}
+use Rattle.texts.proofs.Sizes.{table-most, listed-most}
 use Rattle.shares.specs.Explain.{pairRow, pairsText, explained, explainText, explainMost, ExplainFits}
 use Rattle.shares.proofs.Grids.{grid, grid-none, grid-more}
-use Rattle.shares.proofs.Pairs.{header, linesFrom, pairs-split}
+use Rattle.shares.proofs.Pairs.{header, pairsFrom, pairs-split}
 
 lines-both : (xs ys : List (List ℕ)) → lines (xs ++ ys) ≡ lines xs ++ lines ys
 unfolding lines
 lines-both [] ys = refl
 lines-both (x ∷ xs) ys =
     ap (λ (l : List ℕ). line x ++ l) (lines-both xs ys) ∙ sym (append-assoc (line x) (lines xs) (lines ys))
-
-lines-none : length (lines []) ≡ 0
-unfolding lines
-lines-none = refl
 
 module _ {t : Table} (g : Good t) where
   pair-most : (k : ℕ) → k < t .n → (i : ℕ) → i < t .n → length (line (pairRow t (suc k) (suc i))) ≤ 106
@@ -54,15 +46,6 @@ module _ {t : Table} (g : Good t) where
       (lt-of-le-of-lt (weight-le row (g .sizes .cores) b) (lit< tt))
       (lt-of-le-of-lt (term-le row (g .sizes .cores) b s) (lit< tt))
 
-  task-most : (k : ℕ) → k < t .n → (m : ℕ) → m ≤ t .n → length (lines (tabulate m (pairRow t (suc k)))) ≤ 106 * m
-  unfolding tabulate
-  task-most k l zero h = omega (arith, lines-none)
-  task-most k l (suc m) h =
-      let before = tabulate m (pairRow t (suc k)) in
-      let row = pairRow t (suc k) (suc m) in
-      let size = ap length (lines-snoc before row) ∙ length-append (lines before) (line row) in
-      omega (arith, task-most k l m (omega arith), pair-most k l m h)
-
   rows-most : (m : ℕ) → m ≤ t .n → length (lines (grid (pairRow t) (t .n) m)) ≤ 106 * (m * t .n)
   rows-most zero h =
       let none = ap (λ (x : List (List ℕ)). length (lines x)) (grid-none (pairRow t) (t .n)) in
@@ -74,13 +57,13 @@ module _ {t : Table} (g : Good t) where
       ap (λ (x : List (List ℕ)). length (lines x)) (grid-more (pairRow t) (t .n) m)
       ∙ ap length (lines-both before rows)
       ∙ length-append (lines before) (lines rows) in
-      omega (arith, rows-most m (omega arith), task-most m h (t .n) (omega arith))
+      omega (arith, rows-most m (omega arith), lines-most (pairRow t (suc m)) 106 (t .n) (pair-most m h))
 
   pub pairs-most : length (pairsText t) ≤ explainMost
   pairs-most =
       let few = g .sizes .few in
       let pairs : t .n * t .n ≤ mostTasks * mostTasks = mul-le-mul few few in
-      let size = ap length (pairs-split t) ∙ length-append header (linesFrom t 0) in
+      let size = ap length (pairs-split t) ∙ length-append header (pairsFrom t 0) in
       omega (arith, rows-most (t .n) (omega arith))
 
 explained-most : (t : Table) → length (t .rows) ≡ mostTasks → length (explained t) ≤ explainMost
@@ -92,11 +75,4 @@ explained-most t len = go (unrefused t) refl
 
 pub explain-fits : ExplainFits
 unfolding explainText
-explain-fits pThere p tThere t = go (taken platformForm pThere p) refl (taken tasksForm tThere t) refl
-  where
-    go : (x : Answer (List (List ℕ))) → taken platformForm pThere p ≡ x
-        → (y : Answer (List (List ℕ))) → taken tasksForm tThere t ≡ y
-        → length (given refusedText explained x y) ≤ explainMost
-    go (refused n) e y f = omega (arith, bad-most platformForm pThere p n e)
-    go (found rows) e (refused n) f = omega (arith, bad-most tasksForm tThere t n f)
-    go (found rows) e (found more) f = explained-most _ (length-padded noTask mostTasks _)
+explain-fits = listed-most explained explainMost (omega arith) explained-most

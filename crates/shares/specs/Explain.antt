@@ -7,7 +7,6 @@ use mathlib.Core.List.{List, [], _∷_, flatten}
 use lib.Dec.{eqb}
 use lib.ListN.{length, getD}
 use Rattle.maths.specs.Tasks.{Each, tabulate}
-use Rattle.forms.specs.Forms.{platformForm, tasksForm}
 use Rattle.table.specs.declared.Table.{Table}
 use Rattle.table.specs.declared.Refusal.{Refusal}
 use Rattle.table.specs.Limits.{mostTasks}
@@ -15,7 +14,7 @@ use Rattle.table.specs.Refused.{refusal, unrefused}
 use Rattle.admission.specs.Test.{interference, weight, share, load, limit, less, margin}
 use Rattle.admission.specs.Answers.{margins}
 use Rattle.writers.specs.Outputs.{listing, refusedText, marginsText}
-use Rattle.texts.specs.Given.{given, taken}
+use Rattle.texts.specs.Given.{listed}
 use Rattle.texts.specs.Admit.{admitText}
 
 -- what task i takes of the limit of task k
@@ -33,8 +32,7 @@ abbrev pub explained : Table → List ℕ
 explained t = cond (unrefused t) (pairsText t) (refusedText (refusal t))
 
 unfoldable pub explainText : Bool → List ℕ → Bool → List ℕ → List ℕ
-explainText platformThere platform tasksThere tasks =
-    given refusedText explained (taken platformForm platformThere platform) (taken tasksForm tasksThere tasks)
+explainText = listed explained
 
 -- the shares of task k in the rows of a listing, added up: the fifth column where the first is k
 unfoldable pub sharesIn : ℕ → List (List ℕ) → ℕ

@@ -39,15 +39,15 @@ use Rattle.readers.specs.Inputs.{badText}
 use Rattle.writers.specs.Signed.{marginOf, sign, marginRow}
 use Rattle.writers.specs.Outputs.{refusedText, marginLines, marginsText}
 use Rattle.writers.proofs.Wholes.{one-listing}
-use Rattle.texts.specs.Given.{given, longest, taken}
+use Rattle.texts.specs.Given.{given, longest, taken, listed}
 use Rattle.texts.specs.Admit.{answerText, judged, admitText, admitMost, AdmitFits}
 
--- the largest of both
-refused-line : length (line (15 ∷ longest ∷ [])) ≡ 10
+-- a number of two digits, and the largest offset
+refused-line : length (line (99 ∷ longest ∷ [])) ≡ 10
 unfolding line digits digitsIn
 refused-line = refl
 
-pub refused-most : (r : Refusal) → r .number ≤ 15 → r .row ≤ longest → length (refusedText r) ≤ 23
+pub refused-most : (r : Refusal) → r .number ≤ 99 → r .row ≤ longest → length (refusedText r) ≤ 23
 refused-most r h g =
     let row = line-most (also h (also g none)) in
     let size = ap length (one-listing "refused,row" (r .number ∷ r .row ∷ [])) in
@@ -151,12 +151,20 @@ judged-most t len = go (unrefused t) refl
     go true e = rw e (margins-most t (good-of t len (eqb-true _ _ e)))
     go false e = rw e (omega (arith, table-most t len))
 
-pub admit-fits : AdmitFits
-unfolding admitText
-admit-fits pThere p tThere t = go (taken platformForm pThere p) refl (taken tasksForm tThere t) refl
+-- what a program lists has room where every table's listing has
+pub listed-most : (text : Table → List ℕ) (most : ℕ) → 23 ≤ most
+    → ((t : Table) → length (t .rows) ≡ mostTasks → length (text t) ≤ most)
+    → (platformThere : Bool) (platform : List ℕ) (tasksThere : Bool) (tasks : List ℕ)
+    → length (listed text platformThere platform tasksThere tasks) ≤ most
+listed-most text most least each pThere p tThere t =
+    go (taken platformForm pThere p) refl (taken tasksForm tThere t) refl
   where
     go : (x : Answer (List (List ℕ))) → taken platformForm pThere p ≡ x → (y : Answer (List (List ℕ)))
-        → taken tasksForm tThere t ≡ y → length (given refusedText judged x y) ≤ admitMost
+        → taken tasksForm tThere t ≡ y → length (given refusedText text x y) ≤ most
     go (refused k) e y f = omega (arith, bad-most platformForm pThere p k e)
     go (found rows) e (refused k) f = omega (arith, bad-most tasksForm tThere t k f)
-    go (found rows) e (found more) f = judged-most _ (length-padded noTask mostTasks _)
+    go (found rows) e (found more) f = each _ (length-padded noTask mostTasks _)
+
+pub admit-fits : AdmitFits
+unfolding admitText
+admit-fits = listed-most judged admitMost (omega arith) judged-most

@@ -4,13 +4,12 @@ use mathlib.Core.Bool.{Bool, cond}
 use mathlib.Core.List.{List}
 use lib.Dec.{eqb}
 use lib.ListN.{length}
-use Rattle.forms.specs.Forms.{platformForm, tasksForm}
 use Rattle.table.specs.declared.Table.{Table}
 use Rattle.table.specs.Limits.{mostTasks}
 use Rattle.admission.specs.declared.FullAnswer.{FullAnswer}
 use Rattle.admission.specs.Answers.{fullAnswer}
 use Rattle.writers.specs.Outputs.{refusedText, marginsText}
-use Rattle.texts.specs.Given.{given, taken}
+use Rattle.texts.specs.Given.{listed}
 
 abbrev pub answerText : ℕ → FullAnswer → List ℕ
 answerText n a = cond (eqb (a .refused .number) 0) (marginsText n (a .margins)) (refusedText (a .refused))
@@ -19,8 +18,7 @@ abbrev pub judged : Table → List ℕ
 judged t = answerText (t .n) (fullAnswer t)
 
 unfoldable pub admitText : Bool → List ℕ → Bool → List ℕ → List ℕ
-admitText platformThere platform tasksThere tasks =
-    given refusedText judged (taken platformForm platformThere platform) (taken tasksForm tasksThere tasks)
+admitText = listed judged
 
 -- The program's buffer, `ADMIT_MOST`: a header of 18 bytes, and a row of at most 27 for each task, whose number has two
 -- digits, whose margin has a sign and 19.

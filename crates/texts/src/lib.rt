@@ -5,7 +5,7 @@ ghost use lib.Dec.{leb};
 ghost use Rattle.forms.specs.Forms.{platformForm, tasksForm, ticksForm};
 ghost use Rattle.readers.specs.Inputs.{platformRead, tableRead, ticksRead};
 ghost use Rattle.writers.specs.Written.{Wrote};
-ghost use Rattle.texts.specs.Given.{longest, taken};
+ghost use Rattle.texts.specs.Given.{longest, taken, tableTaken};
 ghost use Rattle.texts.specs.Admit.{admitText};
 ghost use Rattle.texts.specs.Verdict.{verdict};
 use readers::PlatformRead;
@@ -31,7 +31,7 @@ fn takes(there: bool, length: usize) -> bool
     length <= LONGEST
 }
 
-pub fn take_platform(there: bool, s: &[u8]) -> PlatformRead
+fn take_platform(there: bool, s: &[u8]) -> PlatformRead
     ensures { λ r. ⌜ r ≡ platformRead (taken platformForm there (now (s .entry))) ⌝ }
 {
     if !takes(there, s.len()) {
@@ -40,13 +40,30 @@ pub fn take_platform(there: bool, s: &[u8]) -> PlatformRead
     readers::read_platform(s)
 }
 
-pub fn take_tasks(there: bool, s: &[u8], platform: Platform) -> TableRead
+fn take_tasks(there: bool, s: &[u8], platform: Platform) -> TableRead
     ensures { λ r. ⌜ r ≡ tableRead platform (taken tasksForm there (now (s .entry))) ⌝ }
 {
     if !takes(there, s.len()) {
         return TableRead::bad(0);
     }
     readers::read_tasks(s, platform)
+}
+
+// The table of a program's two texts, the platform first.
+pub fn take_table(
+    platform_there: bool,
+    platform: &[u8],
+    tasks_there: bool,
+    tasks: &[u8],
+) -> TableRead
+    ensures { λ r. ⌜ r ≡ tableTaken «platform_there» (now (platform .entry)) «tasks_there» (now (tasks .entry)) ⌝ }
+{
+    let p = take_platform(platform_there, platform);
+    if p.refused.number != 0 {
+        return TableRead::bad(p.refused.row);
+    }
+    let held = p.platform;
+    take_tasks(tasks_there, tasks, held)
 }
 
 pub fn take_ticks(there: bool, s: &[u8]) -> TicksRead
@@ -69,13 +86,7 @@ pub fn admit(
     ensures { λ r. ⌜ Wrote (admitText «platform_there» (now (platform .entry)) «tasks_there» (now (tasks .entry)))
         (now (out .entry)) r (now (out .exit)) ⌝ }
 {
-    let p = take_platform(platform_there, platform);
-    if p.refused.number != 0 {
-        let r = p.refused;
-        return writers::write_refused(r, out);
-    }
-    let held = p.platform;
-    let t = take_tasks(tasks_there, tasks, held);
+    let t = take_table(platform_there, platform, tasks_there, tasks);
     if t.refused.number != 0 {
         let r = t.refused;
         return writers::write_refused(r, out);

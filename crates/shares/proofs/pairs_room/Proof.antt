@@ -9,13 +9,13 @@ use Rattle.forms.specs.Forms.{line}
 use Rattle.writers.specs.Written.{roomFor}
 use Rattle.writers.proofs.Rooms.{room-none, room-more, room-halt}
 use Rattle.shares.specs.Explain.{pairsText}
-use Rattle.shares.proofs.Pairs.{linesFrom, pairs-split, pairs-more, pairs-end}
+use Rattle.shares.proofs.Pairs.{pairsFrom, pairs-split, pairs-more, pairs-end}
 use Rattle.shares.proofs.pairs_room.Statement.{statement}
 use Rattle.shares.proofs.pairs_room.Tie as tie
 
 abbrev Inv-loop : tie.InvT-loop
 Inv-loop t room rows left₀ at₀ left at =
-    (at ≤ rows) × (roomFor (pairsText t) room ≡ roomFor (linesFrom t at) left)
+    (at ≤ rows) × (roomFor (pairsText t) room ≡ roomFor (pairsFrom t at) left)
 
 abbrev μ-loop : tie.MeasureT-loop
 μ-loop t room rows left₀ at₀ left at = rows - at
@@ -24,7 +24,7 @@ abbrev μ-loop : tie.MeasureT-loop
 comes : (c : tie.After-pair-row Inv-loop μ-loop) →
     let k = c .before .before in
     let t = k .before .before .before .before .before .before .args .t in
-    linesFrom t (k .loop .at) ≡ line (c .pair-row .result) ++ linesFrom t (k .loop .at + 1)
+    pairsFrom t (k .loop .at) ≡ line (c .pair-row .result) ++ pairsFrom t (k .loop .at + 1)
 comes c =
     let k = c .before .before in
     let t = k .before .before .before .before .before .before .args .t in

@@ -11,13 +11,13 @@ use Rattle.writers.specs.Code.Put.{Put}
 use Rattle.writers.proofs.Added.{put-added}
 use Rattle.writers.proofs.Sequences.{Putting, putting-start, putting-more, putting-end, putting-room}
 use Rattle.writers.proofs.Sequences.{put-then, put-room, put-length, first-fits}
-use Rattle.shares.proofs.Pairs.{header, linesFrom, pairs-split, pairs-more, pairs-end}
+use Rattle.shares.proofs.Pairs.{header, pairsFrom, pairs-split, pairs-more, pairs-end}
 use Rattle.shares.proofs.put_pairs.Statement.{statement}
 use Rattle.shares.proofs.put_pairs.Tie as tie
 
 abbrev Inv-loop : tie.InvT-loop
 Inv-loop t out₀ next₀ rows at₀ out next at =
-    (at ≤ rows) × (length out ≡ length out₀) × Putting out₀ next₀ (linesFrom t 0) out next (linesFrom t at)
+    (at ≤ rows) × (length out ≡ length out₀) × Putting out₀ next₀ (pairsFrom t 0) out next (pairsFrom t at)
 
 abbrev μ-loop : tie.MeasureT-loop
 μ-loop t out₀ next₀ rows at₀ out next at = rows - at
@@ -25,7 +25,7 @@ abbrev μ-loop : tie.MeasureT-loop
 -- the whole text has room
 fits : (c : tie.At-loop Inv-loop μ-loop) →
     let args = c .before .before .before .before .before .before .before .before .args in
-    0 + length (header ++ linesFrom (args .t) 0) ≤ length (now (args .out))
+    0 + length (header ++ pairsFrom (args .t) 0) ≤ length (now (args .out))
 fits c =
     let s = c .before .before .before .before .before .before .before .before in
     let size = ap length (pairs-split (s .args .t)) in
@@ -38,13 +38,13 @@ head : (c : tie.At-loop Inv-loop μ-loop) →
 head c =
     let h = c .before .before .before .before in
     let args = h .before .before .before .before .args in
-    put-added _ _ _ _ _ (first-fits header (linesFrom (args .t) 0) 0 _ (fits c)) (h .add-word .ensures)
+    put-added _ _ _ _ _ (first-fits header (pairsFrom (args .t) 0) 0 _ (fits c)) (h .add-word .ensures)
 
 -- the row at the loop's place, and those behind it
 comes : (c : tie.After-pair-row Inv-loop μ-loop) →
     let k = c .before .before in
     let t = k .before .before .before .before .before .before .before .before .args .t in
-    linesFrom t (k .loop .at) ≡ line (c .pair-row .result) ++ linesFrom t (k .loop .at + 1)
+    pairsFrom t (k .loop .at) ≡ line (c .pair-row .result) ++ pairsFrom t (k .loop .at + 1)
 comes c =
     let k = c .before .before in
     let t = k .before .before .before .before .before .before .before .before .args .t in
@@ -59,8 +59,8 @@ put c =
     let m = c .before .before .before in
     let k = m .before .before in
     let t = k .before .before .before .before .before .before .before .before .args .t in
-    let room = put-room (linesFrom t 0) (head k) (fits k) in
-    let rest = linesFrom t (k .loop .at + 1) in
+    let room = put-room (pairsFrom t 0) (head k) (fits k) in
+    let rest = pairsFrom t (k .loop .at + 1) in
     let fits = putting-room (k .loop .inv .2) (line (m .pair-row .result)) rest (comes m) room in
     put-added _ _ _ _ _ fits (c .add-line .ensures)
 

@@ -1,0 +1,2 @@
+pub mod Rehearse
+pub mod Code

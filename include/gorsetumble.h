@@ -29,11 +29,12 @@ enum {
     GORSETUMBLE_MOST_TASKS = 32,
     GORSETUMBLE_MOST_CORES = 16,
     GORSETUMBLE_MOST_PARTITIONS = 64,
-    GORSETUMBLE_LONGEST_PERIOD = 65535
+    GORSETUMBLE_LONGEST_PERIOD = 65535,
+    GORSETUMBLE_LONGEST_REHEARSAL = 1000000
 };
 
 /* The numbers of refusals; docs/FITTERS.md has the cause and the cure of each. A table is tried for 1 to 3 and then row
- * by row for 4 to 8; a tick for 14, 9, 10, 11, 12 and 13, each over all tasks. */
+ * by row for 4 to 8, and a rehearsal's then for 17; a tick for 14, 9, 10, 11, 12 and 13, each over all tasks. */
 enum {
     GORSETUMBLE_NOT_REFUSED = 0,
     GORSETUMBLE_REFUSED_COUNT = 1,        /* no task, or more than 32 */
@@ -51,7 +52,8 @@ enum {
     GORSETUMBLE_REFUSED_UNFINISHED = 13,  /* released names a task whose job is unfinished */
     GORSETUMBLE_REFUSED_STATE = 14,       /* the machine lent is no state that a machine can be in */
     GORSETUMBLE_REFUSED_TEXT = 15,        /* a text is not of its form: up to the offset a good one could begin so */
-    GORSETUMBLE_REFUSED_ROOM = 16         /* a buffer is too short for its text */
+    GORSETUMBLE_REFUSED_ROOM = 16,        /* a buffer is too short for its text */
+    GORSETUMBLE_REFUSED_MULTIPLE = 17     /* the least common multiple of the periods is above 1,000,000 */
 };
 
 typedef struct {
@@ -92,6 +94,16 @@ typedef struct {
     bool admitted;
     size_t first;
 } gorsetumble_quick_answer;
+
+/* `tick` is the first at which a job is late and `task` the lowest such task, or both are 0; `started` counts the jobs
+ * that each task started before that tick, or in all, and is 0 past the last task. Where the rehearsal is refused, all
+ * but the refusal is 0. */
+typedef struct {
+    gorsetumble_refusal refused;
+    uint32_t tick;
+    size_t task;
+    uint32_t started[GORSETUMBLE_MOST_TASKS];
+} gorsetumble_rehearsal;
 
 /* the stages of a job; one above 2 is a spoiled state, refused under 14 */
 enum { GORSETUMBLE_IDLE = 0, GORSETUMBLE_WAITING = 1, GORSETUMBLE_RUNNING = 2 };
@@ -159,6 +171,10 @@ GORSETUMBLE_AT(gorsetumble_full_answer, margins, 32);
 GORSETUMBLE_SIZE(gorsetumble_quick_answer, 32);
 GORSETUMBLE_AT(gorsetumble_quick_answer, admitted, 16);
 GORSETUMBLE_AT(gorsetumble_quick_answer, first, 24);
+GORSETUMBLE_SIZE(gorsetumble_rehearsal, 160);
+GORSETUMBLE_AT(gorsetumble_rehearsal, tick, 16);
+GORSETUMBLE_AT(gorsetumble_rehearsal, task, 24);
+GORSETUMBLE_AT(gorsetumble_rehearsal, started, 32);
 GORSETUMBLE_SIZE(gorsetumble_job, 24);
 GORSETUMBLE_AT(gorsetumble_job, age, 4);
 GORSETUMBLE_AT(gorsetumble_job, ran, 8);
@@ -199,6 +215,11 @@ uint32_t gorsetumble_quick_verdict(const uint8_t *platform, size_t platform_leng
 gorsetumble_full_answer gorsetumble_full(gorsetumble_platform platform, const gorsetumble_task *rows, size_t count);
 gorsetumble_quick_answer gorsetumble_quick(gorsetumble_platform platform, const gorsetumble_task *rows, size_t count);
 
+/* The rows rehearsed: all tasks released at tick 0 and then each period, every job running its full C, for the least
+ * common multiple of the periods. It tries this one pattern of releases and promises nothing of others; the verdict
+ * does. It goes from event to event: docs/C.md says how long that can take. */
+gorsetumble_rehearsal gorsetumble_rehearse(gorsetumble_platform platform, const gorsetumble_task *rows, size_t count);
+
 /* A fresh machine in the place of the old one, of which nothing stays: of these rows, or of the table that two texts
  * give. Where it is refused the old one stays. Set-up does not ask for the verdict. */
 gorsetumble_refusal gorsetumble_set_up(gorsetumble_machine *m, gorsetumble_platform platform,
@@ -210,10 +231,12 @@ gorsetumble_text_refusal gorsetumble_set_up_texts(gorsetumble_machine *m, const 
  * start now. */
 gorsetumble_answer gorsetumble_tick(gorsetumble_machine *m, uint32_t released, uint32_t finished);
 
-/* What the programs `admit` and `ticks` write of their texts. As they do, these take no text over 60,000 bytes: it is
- * written as 15 and 0. */
+/* What the programs `admit`, `rehearse` and `ticks` write of their texts. As they do, these take no text over 60,000
+ * bytes: it is written as 15 and 0. */
 gorsetumble_written gorsetumble_admit(const uint8_t *platform, size_t platform_length, const uint8_t *tasks,
                                       size_t tasks_length, uint8_t *out, size_t room);
+gorsetumble_written gorsetumble_rehearse_texts(const uint8_t *platform, size_t platform_length, const uint8_t *tasks,
+                                               size_t tasks_length, uint8_t *out, size_t room);
 gorsetumble_written gorsetumble_ticks(const uint8_t *platform, size_t platform_length, const uint8_t *tasks,
                                       size_t tasks_length, const uint8_t *ticks, size_t ticks_length, uint8_t *out,
                                       size_t room);

@@ -93,6 +93,19 @@ static void admission(void) {
     put64(quick.first);
 }
 
+static void rehearsal(void) {
+    Given given;
+    gorsetumble_task *rows;
+    get(&given, sizeof given);
+    size_t some = lend_rows(&given, &rows);
+    gorsetumble_rehearsal shown = gorsetumble_rehearse(given.platform, rows, count_of(&given));
+    rows_stay(&given, rows, some);
+    put_refusal(shown.refused);
+    put32(shown.tick);
+    put64(shown.task);
+    put(shown.started, sizeof shown.started);
+}
+
 static uint64_t mixed(uint64_t h, uint32_t x) { return (h * 1000003 + x) % 4294967291; }
 
 static uint64_t mixed64(uint64_t h, uint64_t x) { return mixed(mixed(h, (uint32_t)x), (uint32_t)(x >> 32)); }
@@ -297,6 +310,15 @@ static void admit(void) {
     put_written(w, 0, PAST);
 }
 
+static void rehearse(void) {
+    lend_file(0);
+    lend_file(1);
+    buffer(0, PAST);
+    gorsetumble_written w = gorsetumble_rehearse_texts(LENT(0), LENT(1), BUFFER(0));
+    texts_stay(2);
+    put_written(w, 0, PAST);
+}
+
 static void ticks(void) {
     lend_file(0);
     lend_file(1);
@@ -341,12 +363,14 @@ static void write_both(void) {
 static bool answered(uint8_t kind) {
     switch (kind) {
     case 'A': admission(); break;
+    case 'R': rehearsal(); break;
     case 'S': set_up(); break;
     case 'T': tick(); break;
     case 'X': given(); break;
     case 'C': verdict(); break;
     case 'U': set_up_texts(); break;
     case 'M': admit(); break;
+    case 'B': rehearse(); break;
     case 'N': ticks(); break;
     case 'V': write_one_by_one(); break;
     case 'W': write_both(); break;

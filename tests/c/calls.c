@@ -14,6 +14,7 @@ void expect(bool good, const char *what) {
 
 int main(void) {
     records();
+    rehearsals();
     texts();
     writers();
     printf("%u passed, %u failed\n", passed, failed);

@@ -7,5 +7,6 @@
 void expect(bool good, const char *what);
 
 void records(void);
+void rehearsals(void);
 void texts(void);
 void writers(void);

@@ -38,10 +38,12 @@ enum {
     VERDICT,
     FULL,
     QUICK,
+    REHEARSE,
     SET_UP,
     SET_UP_TEXTS,
     TICK,
     ADMIT,
+    REHEARSE_TEXTS,
     TICKS,
     WRITE_PLATFORM,
     WRITE_TASKS,
@@ -52,9 +54,10 @@ enum {
 #define CALL(name, in_memory) {#name, (const void *)name, in_memory, 0, 0}
 static Call calls[CALLS] = {
     CALL(gorsetumble_quick_verdict, false), CALL(gorsetumble_full, true),
-    CALL(gorsetumble_quick, true),          CALL(gorsetumble_set_up, false),
-    CALL(gorsetumble_set_up_texts, true),   CALL(gorsetumble_tick, true),
-    CALL(gorsetumble_admit, true),          CALL(gorsetumble_ticks, true),
+    CALL(gorsetumble_quick, true),          CALL(gorsetumble_rehearse, true),
+    CALL(gorsetumble_set_up, false),        CALL(gorsetumble_set_up_texts, true),
+    CALL(gorsetumble_tick, true),           CALL(gorsetumble_admit, true),
+    CALL(gorsetumble_rehearse_texts, true), CALL(gorsetumble_ticks, true),
     CALL(gorsetumble_write_platform, true), CALL(gorsetumble_write_tasks, true),
     CALL(gorsetumble_write_texts, true),
 };
@@ -109,6 +112,7 @@ static void on_rows(Platform p, Task row, size_t count, uint32_t number) {
     Arguments set_up = {{(uint64_t)&machine, in_register(p), (uint64_t)rows, count}, {0}, 0};
     takes(FULL, number, answers, NULL);
     takes(QUICK, number, answers, NULL);
+    takes(REHEARSE, number, answers, NULL);
     takes(SET_UP, number, set_up, NULL);
 }
 
@@ -125,6 +129,21 @@ static void records(void) {
         on_rows(none, light, n, 2);
     }
     for (size_t i = 0; i < 3; i++) on_rows(most, light, refused_counts[i], 1);
+}
+
+/* Rows of different periods, with a small multiple, with a late job, and with a multiple that is refused. */
+static void rehearsals(void) {
+    const Platform most = {16, 64}, one = {1, 1};
+    for (uint32_t step = 1; step <= 3; step++) {
+        for (uint32_t i = 0; i < GORSETUMBLE_MOST_TASKS; i++) {
+            uint32_t period = step == 3 ? 65535 - i : 4 + step * (i % 4);
+            rows[i] = (Task){period, period, 1, 1};
+        }
+        Arguments on_most = {{0, in_register(most), (uint64_t)rows, GORSETUMBLE_MOST_TASKS}, {0}, 0};
+        Arguments on_one = {{0, in_register(one), (uint64_t)rows, GORSETUMBLE_MOST_TASKS}, {0}, 0};
+        takes(REHEARSE, step == 3 ? GORSETUMBLE_REFUSED_MULTIPLE : 0, on_most, NULL);
+        takes(REHEARSE, step == 3 ? GORSETUMBLE_REFUSED_MULTIPLE : 0, on_one, NULL);
+    }
 }
 
 static void tick(gorsetumble_machine *m, uint32_t released, uint32_t finished, uint32_t number) {
@@ -183,6 +202,7 @@ static void listings(void) {
         Arguments admit = {{0, p, platform.length, t, tasks.length, (uint64_t)out}, {rooms[i]}, 1};
         Arguments list = {{0, p, platform.length, t, tasks.length, k}, {ticks.length, (uint64_t)out, rooms[i]}, 3};
         takes(ADMIT, number, admit, NULL);
+        takes(REHEARSE_TEXTS, number, admit, NULL);
         takes(TICKS, number, list, NULL);
     }
 }
@@ -260,6 +280,7 @@ static void writers(void) {
 
 int main(void) {
     records();
+    rehearsals();
     ticking();
     texts();
     writers();

@@ -15,6 +15,8 @@ use Rattle.admission.specs.Answers.{fullAnswer, quickAnswer}
 use Rattle.machine.specs.declared.Machine.{Machine}
 use Rattle.machine.specs.declared.SetUp.{SetUp}
 use Rattle.machine.specs.Fresh.{setUp}
+use Rattle.rehearsal.specs.declared.Rehearsal.{Rehearsal}
+use Rattle.rehearsal.specs.Rehearsal.{rehearsed}
 use Rattle.gorsetumble.specs.declared.texting.TextRefusal.{TextRefusal}
 use Rattle.gorsetumble.specs.FromTexts.{setUpTexts}
 
@@ -25,6 +27,9 @@ module _ (p : Platform) (rows : List Task) where
   pub quick-determined : (r s : QuickAnswer) → r ≡ quickAnswer (tableOf p rows)
       → s ≡ quickAnswer (tableOf p rows) → r ≡ s
   quick-determined = determined (quickAnswer (tableOf p rows))
+
+  pub rehearse-determined : (r s : Rehearsal) → r ≡ rehearsed (tableOf p rows) → s ≡ rehearsed (tableOf p rows) → r ≡ s
+  rehearse-determined = determined (rehearsed (tableOf p rows))
 
   pub set-up-determined : (m : Machine) (r s : Refusal) (a b : Machine)
       → (r ≡ setUp m (tableOf p rows) .refused) × (a ≡ setUp m (tableOf p rows) .machine)

@@ -7,11 +7,13 @@ ghost use Rattle.table.specs.Tasks.{tableOf};
 ghost use Rattle.admission.specs.Answers.{fullAnswer, quickAnswer};
 ghost use Rattle.machine.specs.Fresh.{setUp};
 ghost use Rattle.machine.specs.Tick.{tick};
+ghost use Rattle.rehearsal.specs.Rehearsal.{rehearsed};
 ghost use Rattle.gorsetumble.specs.Code.Rows.{noRows, withRows};
 use admission::FullAnswer;
 use admission::QuickAnswer;
 use machine::Answer;
 use machine::Machine;
+use rehearsal::Rehearsal;
 use table::Platform;
 use table::Refusal;
 use table::Table;
@@ -61,6 +63,14 @@ pub extern "C" fn gorsetumble_quick(platform: Platform, rows: &[Task]) -> QuickA
     ensures { λ r. ⌜ r ≡ quickAnswer (tableOf platform (now (rows .entry))) ⌝ }
 {
     admission::quick_answer(table_of(platform, rows))
+}
+
+// The rows rehearsed on the bench.
+#[no_mangle]
+pub extern "C" fn gorsetumble_rehearse(platform: Platform, rows: &[Task]) -> Rehearsal
+    ensures { λ r. ⌜ r ≡ rehearsed (tableOf platform (now (rows .entry))) ⌝ }
+{
+    rehearsing::rehearse(table_of(platform, rows))
 }
 
 // A fresh machine of the rows in the place of the old one, which stays where they are refused.

@@ -1,10 +1,11 @@
-// Whole texts from C: the quick verdict, set-up, what the programs `admit` and `ticks` write of texts that are there,
-// and the writers.
+// Whole texts from C: the quick verdict, set-up, what the programs `admit`, `rehearse` and `ticks` write of texts that
+// are there, and the writers.
 ghost use mathlib.Core.Path.{_≡_};
 ghost use mathlib.Core.Bool.{true};
 ghost use Rattle.texts.specs.Admit.{admitText};
 ghost use Rattle.texts.specs.Verdict.{verdict};
 ghost use Rattle.runs.specs.Ticks.{ticksText};
+ghost use Rattle.trials.specs.Rehearse.{rehearseText};
 ghost use Rattle.writers.specs.Outputs.{platformText, tasksText};
 ghost use Rattle.writers.specs.Written.{Wrote, WroteBoth};
 ghost use Rattle.gorsetumble.specs.FromTexts.{setUpTexts};
@@ -136,6 +137,18 @@ pub extern "C" fn gorsetumble_admit(platform: &[u8], tasks: &[u8], out: &mut [u8
         (now (out .entry)) r (now (out .exit)) ⌝ }
 {
     texts::admit(true, platform, true, tasks, out)
+}
+
+#[no_mangle]
+pub extern "C" fn gorsetumble_rehearse_texts(
+    platform: &[u8],
+    tasks: &[u8],
+    out: &mut [u8],
+) -> Written
+    ensures { λ r. ⌜ Wrote (rehearseText true (now (platform .entry)) true (now (tasks .entry)))
+        (now (out .entry)) r (now (out .exit)) ⌝ }
+{
+    trials::rehearse(true, platform, true, tasks, out)
 }
 
 #[no_mangle]

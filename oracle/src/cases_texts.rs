@@ -1,5 +1,5 @@
 //! Cases of texts: what is read, by set-up from two texts (U) and the program "ticks" (N); writers (V, and W for two
-//! texts at once); the quick verdict (C); and the programs' whole work (M, N).
+//! texts at once); the quick verdict (C); and the programs' whole work (M, N, B).
 
 use crate::cases_admission::{refused_values, table_values};
 use crate::counts::Counts;
@@ -7,14 +7,12 @@ use crate::draw::texts::{pair, platform_rows, spoiled, task_rows, three, whole, 
 use crate::draw::{states, tables};
 use crate::files::Pair;
 use crate::machine::Machine;
-use crate::programs::{adds_up, admit, explain, set_up, ticks, verdict};
+use crate::programs::{admit, refused_by, rehearse, set_up, ticks, verdict};
 use crate::records::{Value, BEFORE, MOST, PAST};
 use crate::rng::Rng;
 use crate::table::{Refused, ROWS};
 use crate::texts::{put, read, write as text_of, Form, PLATFORM, TASKS, TICKS};
-use std::fs;
 use std::io;
-use std::path::Path;
 
 struct Run {
     rng: Rng,
@@ -116,10 +114,9 @@ impl Run {
 
     /// What came of a program's text. One that says a refusal can be too long for its buffer just as a listing can.
     fn count_text(&mut self, name: &str, text: &[u8], refused: Option<Refused>) {
-        let says = String::from_utf8_lossy(text).into_owned();
-        let outcome = match (says.strip_prefix("refused,row\r\n"), refused) {
+        let outcome = match (refused_by(text), refused) {
             (None, None) => "listed".to_string(),
-            (Some(row), None) => format!("refused {}", row.split(',').next().unwrap()),
+            (Some(number), None) => format!("refused {number}"),
             (None, Some(r)) => format!("refused {}, a listing", r.number),
             (Some(_), Some(r)) => format!("refused {}, a refusal", r.number),
         };
@@ -144,6 +141,10 @@ impl Run {
         let file = |text: Option<&[u8]>| [Value::Number(text.is_some().into()), bytes(text.unwrap_or_default())];
         let mut case = [file(platform), file(tasks)].concat();
         self.program(b'M', case.clone(), &admit(platform, tasks))?;
+        // a rehearsal can take a million ticks, and kind R tries its numbers
+        if self.rng.once_in(2) {
+            self.program(b'B', case.clone(), &rehearse(platform, tasks))?;
+        }
         case.push(bytes(&given.ticks));
         self.program(b'N', case, &ticks(platform, tasks, &given.ticks))?;
         self.set_up(platform.unwrap_or_default(), tasks.unwrap_or_default())?;
@@ -270,62 +271,13 @@ pub fn write(count_of: u64, seed: u64, pair: Pair) -> io::Result<bool> {
     ]
     .map(String::from)
     .to_vec();
-    for kind in ["M", "N"] {
+    for kind in ["M", "N", "B"] {
         let outcomes = ["listed", "refused 16, a listing", "refused 16, a refusal", "without a byte to spare"];
         wanted.extend(outcomes.map(|what| format!("{kind} {what}")));
         wanted.extend([15, 1, 2, 3, 4, 5, 6, 7, 8].map(|number| format!("{kind} refused {number}")));
     }
+    wanted.push("B refused 17".to_string());
     run.end(&wanted)
-}
-
-/// The name under which what a program wrote is counted: a listing, or the number of the refusal.
-fn outcome(wrote: &[u8]) -> String {
-    let text = String::from_utf8_lossy(wrote);
-    match text.strip_prefix("refused,row\r\n") {
-        Some(row) => format!("explain: refusal {}", row.split(',').next().unwrap_or_default()),
-        None => "explain: a listing".to_string(),
-    }
-}
-
-/// Writes folders 1, 2, .. with the files that the programs read, their standard input, and what "admit", "explain" and
-/// "ticks" must write. False where an outcome of "explain" is met less than once in
-/// 200 folders.
-pub fn folders(count_of: u64, seed: u64, folder: &str) -> io::Result<bool> {
-    let mut rng = Rng::new(seed);
-    let mut counts = Counts::default();
-    for at in 1..=count_of {
-        let given = three(&mut rng);
-        let inside = Path::new(folder).join(at.to_string());
-        let files = inside.join("files");
-        fs::create_dir_all(&files)?;
-        for (name, text) in [("platform.csv", &given.platform), ("tasks.csv", &given.tasks)] {
-            match text {
-                Some(text) => fs::write(files.join(name), text)?,
-                // a file that cannot be read counts as missing
-                None if rng.once_in(2) => fs::create_dir(files.join(name))?,
-                None => {}
-            }
-        }
-        fs::write(inside.join("stdin"), &given.ticks)?;
-        let (platform, tasks) = (given.platform.as_deref(), given.tasks.as_deref());
-        let (admits, explains) = (admit(platform, tasks), explain(platform, tasks));
-        if !adds_up(platform, tasks, &admits, &explains) {
-            return Err(io::Error::other(format!("folder {at}: the shares do not add up")));
-        }
-        counts.add(outcome(&explains));
-        fs::write(inside.join("admit"), admits)?;
-        fs::write(inside.join("explain"), explains)?;
-        fs::write(inside.join("ticks"), ticks(platform, tasks, &given.ticks))?;
-    }
-    println!("{count_of} folders:");
-    counts.print();
-    let refusals = [1, 2, 3, 4, 5, 6, 7, 8, 15].map(|number| format!("explain: refusal {number}"));
-    let wanted: Vec<&str> = ["explain: a listing"].into_iter().chain(refusals.iter().map(String::as_str)).collect();
-    let rare = counts.rarer(&wanted, count_of / 200);
-    if !rare.is_empty() {
-        println!("met too seldom: {}", rare.join(", "));
-    }
-    Ok(rare.is_empty())
 }
 
 #[cfg(test)]

@@ -128,9 +128,10 @@ impl Machine {
     }
 
     /// The partitions that no task holds, upwards.
-    fn idle_partitions(&self) -> Vec<u32> {
-        let taken: BTreeSet<u32> = self.each().flat_map(|(_, _, job)| job.held.iter().copied()).collect();
-        (0..self.table.p).filter(|p| !taken.contains(p)).collect()
+    fn idle_partitions(&self) -> impl Iterator<Item = u32> {
+        let mut taken = [false; 64];
+        self.each().flat_map(|(_, _, job)| &job.held).for_each(|&p| taken[p as usize] = true);
+        (0..self.table.p).filter(move |&p| !taken[p as usize])
     }
 
     /// The clauses that the state breaks. Where n itself is bad nothing can be said of tasks 1 to n.
@@ -174,26 +175,35 @@ impl Machine {
     }
 
     /// Step 1: one unit has passed.
-    fn older(&self) -> Machine {
-        let mut next = self.clone();
-        for (job, task) in next.jobs.iter_mut().zip(self.table.tasks()) {
+    pub fn pass(&mut self) {
+        for (job, task) in self.jobs.iter_mut().zip(self.table.tasks()) {
             job.age = (job.age + 1).min(task.t);
             if job.is(Stage::Running) {
                 job.ran += 1;
             }
         }
-        next
     }
 
     /// Step 2: finished jobs become idle and give up core and partitions.
-    fn without(&self, finished: &BTreeSet<u64>) -> Machine {
-        let mut next = self.clone();
+    pub fn finish<'a>(&mut self, finished: impl IntoIterator<Item = &'a u64>) {
         for k in finished {
-            let job = &mut next.jobs[*k as usize - 1];
+            let job = &mut self.jobs[*k as usize - 1];
             (job.stage, job.ran) = (Stage::Idle, 0);
             job.held.clear();
         }
-        next
+    }
+
+    /// Step 4: released tasks become waiting.
+    pub fn release<'a>(&mut self, released: impl IntoIterator<Item = &'a u64>) {
+        for k in released {
+            let job = &mut self.jobs[*k as usize - 1];
+            (job.stage, job.age) = (Stage::Waiting, 0);
+        }
+    }
+
+    /// Step 5: the first waiting job starts, again and again while it fits; those that started.
+    pub fn start(&mut self) -> Vec<u64> {
+        std::iter::from_fn(|| self.start_first()).collect()
     }
 
     /// The refusals of a tick that could be given, by their place in `ORDER` and the task.
@@ -205,8 +215,10 @@ impl Machine {
         let beyond = released.union(finished).filter(|&&k| k > self.table.n);
         let mut all: BTreeSet<(usize, u64)> = beyond.map(|&k| (place(9), k)).collect();
         let known: BTreeSet<u64> = finished.iter().copied().filter(|&k| k <= self.table.n).collect();
-        let older = self.older();
-        let freed = older.without(&known);
+        let mut older = self.clone();
+        older.pass();
+        let mut freed = older.clone();
+        freed.finish(&known);
         for (k, task, job) in self.each() {
             let after = &older.jobs[k as usize - 1];
             for (number, given) in [
@@ -233,25 +245,21 @@ impl Machine {
         if let Some(refused) = self.refused(released, finished) {
             return Err(refused);
         }
-        let mut next = self.older().without(&members(finished));
+        let mut next = self.clone();
+        next.pass();
+        next.finish(&members(finished));
         let late = self.each().zip(&next.jobs).filter(|((_, task, before), after)| {
             !after.is(Stage::Idle) && before.age == task.d - 1 && after.age == task.d
         });
         let late = set_of(late.map(|((k, _, _), _)| k));
-        for k in members(released) {
-            let job = &mut next.jobs[k as usize - 1];
-            (job.stage, job.age) = (Stage::Waiting, 0);
-        }
-        let mut started = vec![];
-        while let Some(k) = next.start_first() {
-            started.push(k);
-        }
-        Ok((next, Report { finished, late, started: set_of(started) }))
+        next.release(&members(released));
+        let started = set_of(next.start());
+        Ok((next, Report { finished, late, started }))
     }
 
     /// Whether a core and as many partitions are idle as the task needs.
     pub fn fits(&self, task: &Row) -> bool {
-        self.running() < self.table.m && self.idle_partitions().len() as u64 >= u64::from(task.a)
+        self.running() < self.table.m && self.idle_partitions().count() as u64 >= u64::from(task.a)
     }
 
     /// One round of step 5: starts the first waiting job if it fits, and names it.
@@ -260,10 +268,9 @@ impl Machine {
         if !self.fits(task) {
             return None;
         }
-        let (needs, idle) = (task.a as usize, self.idle_partitions());
+        let held = self.idle_partitions().take(task.a as usize).collect();
         let job = &mut self.jobs[k as usize - 1];
-        (job.stage, job.ran) = (Stage::Running, 0);
-        job.held = idle[..needs].to_vec();
+        (job.stage, job.ran, job.held) = (Stage::Running, 0, held);
         Some(k)
     }
 

@@ -1,15 +1,15 @@
 //! The commands of the second program.
 //!
 //! ```text
-//! oracle cases KIND COUNT SEED CASES EXPECTED   write cases of the kind (admission, machine, readers, writers,
-//!                                               verdicts, texts) and the answers expected of them
+//! oracle cases KIND COUNT SEED CASES EXPECTED   write cases of the kind (admission, machine, rehearsal, readers,
+//!                                               writers, verdicts, texts) and the answers expected of them
 //! oracle folders COUNT SEED FOLDER              write COUNT folders with the files of the programs and what
 //!                                               they must write
 //! oracle search TICKS SEED                      look for a counterexample to demand 3, and see how tight the test is
 //! oracle judge CASES EXPECTED GOT               hold the answers that were got to those expected
 //! ```
 
-use oracle::{cases_admission, cases_machine, cases_texts, files, search};
+use oracle::{cases_admission, cases_machine, cases_rehearsal, cases_texts, files, folders, search};
 use std::process::ExitCode;
 
 fn number(word: &str) -> u64 {
@@ -23,6 +23,7 @@ fn run(words: &[&str]) -> std::io::Result<bool> {
             match *kind {
                 "admission" => cases_admission::write(count, seed, pair),
                 "machine" => cases_machine::write(count, seed, pair),
+                "rehearsal" => cases_rehearsal::write(count, seed, pair),
                 "readers" => cases_texts::write_readers(count, seed, pair),
                 "writers" => cases_texts::write_writers(count, seed, pair),
                 "verdicts" => cases_texts::write_verdicts(count, seed, pair),
@@ -30,7 +31,7 @@ fn run(words: &[&str]) -> std::io::Result<bool> {
                 _ => Err(std::io::Error::other(format!("no kind of case '{kind}'"))),
             }
         }
-        ["folders", count, seed, folder] => cases_texts::folders(number(count), number(seed), folder),
+        ["folders", count, seed, folder] => folders::write(number(count), number(seed), folder),
         ["search", ticks, seed] => {
             let (passed, failed) = search::search(number(ticks), number(seed));
             println!("{passed} passed, {failed} failed");

@@ -2,6 +2,7 @@
 
 use crate::admission::{full, interference, limit, margin, quick};
 use crate::machine::Machine;
+use crate::rehearsal;
 use crate::table::{Refused, Row, Table};
 use crate::texts::{read, Form, PLATFORM, TASKS, TICKS};
 
@@ -83,10 +84,26 @@ pub fn explain(platform: Option<&[u8]>, tasks: Option<&[u8]>) -> Vec<u8> {
     lines("task,other,interference,weight,share", rows)
 }
 
+/// What "rehearse" writes: how many jobs each task started, and the tick at which some job was late in the row of the
+/// lowest such task.
+pub fn rehearse(platform: Option<&[u8]>, tasks: Option<&[u8]>) -> Vec<u8> {
+    let shown = match given(platform, tasks).and_then(|table| rehearsal::run(&table)) {
+        Ok(shown) => shown,
+        Err(r) => return refused(r),
+    };
+    let late = |k| if k == shown.task() { shown.tick } else { 0 };
+    lines("task,started,late", (1..).zip(&shown.started).map(|(k, started)| format!("{k},{started},{}", late(k))))
+}
+
 /// The rows of a listing, as numbers.
-fn rows_of(listing: &[u8]) -> Vec<Vec<i128>> {
+pub fn rows_of(listing: &[u8]) -> Vec<Vec<i128>> {
     let text = std::str::from_utf8(listing).expect("a listing is ASCII");
     text.lines().skip(1).map(|row| row.split(',').map(|x| x.parse().expect("a number")).collect()).collect()
+}
+
+/// The number of the refusal that a program wrote, if it wrote one.
+pub fn refused_by(text: &[u8]) -> Option<i128> {
+    text.starts_with(b"refused,row\r\n").then(|| rows_of(text)[0][0])
 }
 
 /// Whether the two listings, read back, belong together: of each task the shares and the margin add up to its limit.
@@ -223,6 +240,19 @@ mod tests {
         let listing = explain(Some(&platform(4, 4)), Some(&tasks(&[[9, 10, 2, 2], [20, 20, 3, 0]])));
         let rows = "1,1,4,8,32\r\n1,2,6,3,18\r\n2,1,6,8,48\r\n2,2,6,3,18\r\n";
         assert_eq!(String::from_utf8(listing).unwrap(), format!("task,other,interference,weight,share\r\n{rows}"));
+    }
+
+    #[test]
+    fn rehearse_p1_p8_and_refusals() {
+        let says =
+            |m, p, rows: &[[u32; 4]]| String::from_utf8(rehearse(Some(&platform(m, p)), Some(&tasks(rows)))).unwrap();
+        assert_eq!(says(2, 4, &P1), "task,started,late\r\n1,6,0\r\n2,5,0\r\n3,3,0\r\n");
+        assert_eq!(says(1, 4, &P8), "task,started,late\r\n1,2,0\r\n2,2,0\r\n3,1,0\r\n4,0,12\r\n");
+        assert_eq!(says(1, 1, &[[1_000, 1_000, 1, 1], [1_001, 1_001, 1, 1]]), "refused,row\r\n17,0\r\n");
+        assert_eq!(says(1, 1, &[[1_000, 1_000, 1, 1], [1_001, 1_001, 1, 2]]), "refused,row\r\n8,2\r\n");
+        assert_eq!(says(1, 1, &[]), "refused,row\r\n1,0\r\n");
+        assert_eq!(rehearse(Some(b"cores"), Some(b"x")), b"refused,row\r\n15,5\r\n");
+        assert_eq!(rehearse(Some(&platform(0, 0)), None), b"refused,row\r\n15,0\r\n");
     }
 
     #[test]

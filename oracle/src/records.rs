@@ -10,11 +10,12 @@
 //! S  set-up of the machine kept       U  set-up of the machine kept from two texts
 //! T  a tick of the machine kept       M  what the program "admit" writes of its texts
 //! X  a tick of a machine given        N  what the program "ticks" writes of its texts
+//! R  the rehearsal of a table         B  what the program "rehearse" writes of its texts
 //!                                     V  platform and tasks texts are written, each by itself
 //!                                     W  both are written, or neither
 //! ```
 //!
-//! A buffer is `BEFORE` in every byte until it is written to. Of M and N the answer shows the room given and `PAST`
+//! A buffer is `BEFORE` in every byte until it is written to. Of M, N and B the answer shows the room given and `PAST`
 //! bytes behind it.
 
 use std::io::{self, Read};
@@ -25,7 +26,7 @@ pub const BEFORE: u8 = 0xa5;
 /// How many bytes behind the room are shown.
 pub const PAST: usize = 16;
 
-/// The most room that a case of M or N gives.
+/// The most room that a case of M, N or B gives.
 pub const MOST: usize = 524_288 - PAST;
 
 #[derive(Clone, Copy, Debug, PartialEq, Eq)]
@@ -88,7 +89,7 @@ fn written_fields(of: &str) -> Vec<Field> {
 pub fn case_fields(kind: u8) -> Option<Vec<Field>> {
     let mut all = vec![];
     match kind {
-        b'A' | b'S' => all.extend(table_fields()),
+        b'A' | b'S' | b'R' => all.extend(table_fields()),
         b'T' => all.extend(report_fields()),
         b'X' => {
             all.extend(table_fields());
@@ -96,7 +97,7 @@ pub fn case_fields(kind: u8) -> Option<Vec<Field>> {
             all.extend(report_fields());
         }
         b'C' | b'U' => all.extend([field("platform", Text), field("tasks", Text)]),
-        b'M' | b'N' => {
+        b'M' | b'N' | b'B' => {
             for name in ["platform", "tasks"] {
                 all.extend([field(format!("{name} there"), U32), field(name, Text)]);
             }
@@ -137,7 +138,11 @@ pub fn answer_fields(kind: u8) -> Option<Vec<Field>> {
             all.extend([field("text", U32), field("digest", U32)]);
         }
         b'C' => all.push(field("answer", U32)),
-        b'M' | b'N' => all.extend(written_fields("")),
+        b'R' => {
+            all.extend([field("number", U32), field("row", U64), field("tick", U32), field("task", U64)]);
+            all.extend((1..=32).map(|k| field(format!("started{k}"), U32)));
+        }
+        b'M' | b'N' | b'B' => all.extend(written_fields("")),
         b'V' => {
             all.extend(written_fields("platform "));
             all.extend(written_fields("tasks "));
@@ -241,7 +246,7 @@ mod tests {
         let size = |fields: Option<Vec<Field>>| {
             fields.unwrap().iter().map(|f| if f.form == U32 { 4 } else { 8 }).sum::<usize>()
         };
-        assert_eq!([b'A', b'S', b'T', b'X'].map(|k| 1 + size(case_fields(k))), [529, 529, 9, 1177]);
-        assert_eq!([b'A', b'S', b'T', b'X'].map(|k| size(answer_fields(k))), [304, 16, 28, 28]);
+        assert_eq!([b'A', b'S', b'T', b'X', b'R'].map(|k| 1 + size(case_fields(k))), [529, 529, 9, 1177, 529]);
+        assert_eq!([b'A', b'S', b'T', b'X', b'R'].map(|k| size(answer_fields(k))), [304, 16, 28, 28, 152]);
     }
 }

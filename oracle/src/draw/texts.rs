@@ -1,6 +1,6 @@
 //! Texts: good ones from drawn tables and reports, and the same with bytes, numbers, lines or their ends spoiled.
 
-use crate::draw::{reports, states, tables};
+use crate::draw::{rehearsals, reports, states, tables};
 use crate::machine::Machine;
 use crate::programs::LONGEST;
 use crate::rng::Rng;
@@ -25,7 +25,8 @@ pub fn task_rows(table: &Table) -> Vec<Vec<u32>> {
 /// A table with as many rows as it says: mostly good, sometimes of none, 33 or hundreds.
 fn table(rng: &mut Rng) -> Table {
     let mut table = match rng.range(0, 9) {
-        0..=3 => states::busy_table(rng),
+        0 | 1 => states::busy_table(rng),
+        2 | 3 => rehearsals::small(rng),
         4 | 5 => tables::edge(rng),
         6 => tables::tiny(rng),
         7 | 8 => tables::damaged(rng),

@@ -1,13 +1,15 @@
 //! What the command answers: the proved program's bytes, the exit status that they mean, and words.
 
-use crate::listing::{self, Listing, Margin, Refused, Share, Tick};
+use crate::chart;
+use crate::chart::file::Unplaced;
+use crate::listing::{self, Listing, Margin, Refused, Rehearsed, Share, Tick};
 use crate::place::{self, PLATFORM, REPORTS, TASKS};
 use crate::run::{Program, Programs, Trouble};
 use crate::typed::{Question, Reports};
 use crate::unit::{self, Text, Unit};
 use crate::words::margins::{Explained, Times};
 use crate::words::refusal::Source;
-use crate::words::{self, margins, refusal, ticks};
+use crate::words::{self, margins, refusal, rehearsal, ticks};
 use std::path::Path;
 
 pub const GOOD: u8 = 0;
@@ -19,6 +21,8 @@ pub struct Answer {
     pub bytes: Vec<u8>,
     pub status: u8,
     pub words: String,
+    /// Written, and not yet in its place.
+    pub chart: Option<Unplaced>,
 }
 
 /// Where the answers come from and for whom they are.
@@ -35,6 +39,7 @@ impl Asked<'_> {
             Question::Admit => self.admit(),
             Question::Explain => self.explain(),
             Question::Ticks { reports, every_row } => self.ticks(reports, *every_row),
+            Question::Rehearse { chart } => self.rehearse(chart.as_deref()),
         }
     }
 
@@ -49,7 +54,7 @@ impl Asked<'_> {
             Listing::Rows(rows) if status == GOOD => margins::headline(rows),
             Listing::Rows(rows) => below(margins::headline(rows), self.not_admitted_words(&bytes, rows)),
         });
-        Ok(Answer { bytes, status, words })
+        Ok(Answer { bytes, status, words, chart: None })
     }
 
     fn explain(&self) -> Result<Answer, Trouble> {
@@ -58,7 +63,7 @@ impl Asked<'_> {
             Listing::Rows(shares) => shares,
             Listing::Refused(refused) => {
                 let words = self.words(|| self.refusal_words(Program::Explain, &bytes, refused, &NO_REPORTS));
-                return Ok(Answer { bytes, status: REFUSED, words });
+                return Ok(Answer { bytes, status: REFUSED, words, chart: None });
             }
         };
         // The listing of shares has no verdict: that is `admit`'s.
@@ -69,7 +74,7 @@ impl Asked<'_> {
             let every_task = self.every_task_words(&margin_bytes, &rows, &bytes, shares);
             below(margins::headline(&rows), every_task)
         });
-        Ok(Answer { bytes, status: verdict(&rows), words })
+        Ok(Answer { bytes, status: verdict(&rows), words, chart: None })
     }
 
     fn every_task_words(
@@ -99,7 +104,35 @@ impl Asked<'_> {
             Listing::Refused(refused) => self.refusal_words(Program::Ticks, &bytes, *refused, &reports),
             Listing::Rows(rows) => below(String::new(), ticks_words(&reports, rows, every_row)),
         });
-        Ok(Answer { bytes, status, words })
+        Ok(Answer { bytes, status, words, chart: None })
+    }
+
+    fn rehearse(&self, chart: Option<&Path>) -> Result<Answer, Trouble> {
+        let bytes = self.programs.run(Program::Rehearse, self.folder, &[])?;
+        let rows = match listing::rehearsal(&bytes).ok_or(Trouble::NoListing(Program::Rehearse))? {
+            Listing::Rows(rows) => rows,
+            Listing::Refused(refused) => {
+                let words = self.words(|| {
+                    let words = self.refusal_words(Program::Rehearse, &bytes, refused, &NO_REPORTS);
+                    words + &chart.map(rehearsal::of_no_chart).unwrap_or_default()
+                });
+                return Ok(Answer { bytes, status: REFUSED, words, chart: None });
+            }
+        };
+        let drawn = chart.map(|file| self.chart(file, &bytes, &rows)).transpose()?;
+        let words = self.words(|| {
+            let words = rehearsal::of_rows(&rows, self.folder);
+            words + &chart.map(rehearsal::of_chart).unwrap_or_default()
+        });
+        let status = if rows.iter().all(|row| row.late == 0) { GOOD } else { NOT_ADMITTED };
+        Ok(Answer { bytes, status, words, chart: drawn })
+    }
+
+    fn chart(&self, file: &Path, bytes: &[u8], rows: &[Rehearsed]) -> Result<Unplaced, Trouble> {
+        let unit = self.same_unit(Program::Rehearse, bytes, &NO_REPORTS)?;
+        let svg = chart::drawn(self.programs, &unit, rows)?;
+        let unwritten = |error| Trouble::NoChart(format!("{} cannot be written: {error}", words::shown(file)));
+        Unplaced::new(file, svg.as_bytes()).map_err(unwritten)
     }
 
     fn margins(&self) -> Result<(Vec<u8>, Listing<Margin>), Trouble> {
@@ -142,6 +175,7 @@ impl Asked<'_> {
         let details = match refused.number {
             1..=8 => self.table_words(program, bytes, refused, reports),
             15 => self.text_words(program, refused, reports),
+            17 => Ok(refusal::of_periods()),
             number => Ok(refusal::of_number(number)),
         };
         below(refusal::headline(refused.number), details)
@@ -416,6 +450,83 @@ mod tests {
         let other = StandIn::new(&["ticks"], r"printf 'tick,refused,finished,late,started\r\n0,0,0,0,3\r\n'");
         other.unit.put("reports.csv", b"released,finished\r\n3,0\r\n0,0\r\n").unwrap();
         assert_eq!(other.answer(&TICKS).2, words::CHANGED);
+    }
+
+    const REHEARSE: Question = Question::Rehearse { chart: None };
+
+    #[test]
+    fn what_a_rehearsal_comes_to() {
+        for (written, status, headline) in [
+            (r"task,started,late\r\n1,3,0\r\n2,2,0\r\n", GOOD, "none late: no job missed its deadline"),
+            (
+                r"task,started,late\r\n1,1,0\r\n2,0,7\r\n",
+                NOT_ADMITTED,
+                "late: a job of task 2 missed its deadline at tick 7,",
+            ),
+            (r"refused,row\r\n17,0\r\n", REFUSED, "refused, number 17: the least common multiple"),
+        ] {
+            let (_, got, words) = StandIn::new(&["rehearse"], &format!("printf '{written}'")).answer(&REHEARSE);
+            assert_eq!(got, status);
+            assert!(words.starts_with(headline), "{words}");
+        }
+        let no_listing =
+            StandIn::new(&["rehearse"], r"printf 'task,started,late\r\n1,1,7\r\n2,0,7\r\n'").ask(&REHEARSE);
+        assert!(matches!(no_listing, Err(Trouble::NoListing(Program::Rehearse))));
+    }
+
+    /// One task 4,4,2,1, which starts one job, as `rehearse` and `ticks` list it.
+    const ONE_TASK: &str = r"case $1 in
+        rehearse) printf 'task,started,late\r\n1,1,0\r\n' ;;
+        ticks)
+            printf 'tick,refused,finished,late,started\r\n'
+            printf '0,0,0,0,1\r\n1,0,0,0,0\r\n2,0,1,0,0\r\n3,0,0,0,0\r\n4,0,0,0,0\r\n' ;;
+        esac";
+
+    fn with_chart(programs: &[&str], behaviour: &str, name: &str) -> (StandIn, Result<Answer, Trouble>) {
+        let stand_in = StandIn::new(programs, behaviour);
+        stand_in.unit.put("tasks.csv", b"D,T,C,A\r\n4,4,2,1\r\n").unwrap();
+        stand_in.unit.put("chart.svg", b"old").unwrap();
+        let answer = stand_in.ask(&Question::Rehearse { chart: Some(stand_in.unit.path.join(name)) });
+        (stand_in, answer)
+    }
+
+    #[test]
+    fn a_chart_is_put_in_its_place_last() {
+        let (stand_in, answer) = with_chart(&["rehearse", "ticks"], ONE_TASK, "chart.svg");
+        let chart = || fs::read_to_string(stand_in.unit.path.join("chart.svg")).unwrap();
+        let answer = answer.unwrap();
+        assert!(answer.words.ends_with("/chart.svg\n"), "{}", answer.words);
+        assert_eq!(chart(), "old");
+        answer.chart.expect("a chart").put().unwrap();
+        assert!(chart().starts_with("<svg ") && chart().ends_with("</svg>\n"), "{}", chart());
+        let (_, refused) = with_chart(&["rehearse"], r"printf 'refused,row\r\n17,0\r\n'", "chart.svg");
+        let refused = refused.unwrap();
+        assert!(refused.chart.is_none() && refused.words.contains("so no chart is drawn: "), "{}", refused.words);
+    }
+
+    #[test]
+    fn a_chart_that_nobody_vouches_for_is_not_drawn() {
+        let otherwise = |from: &str, to: &str| ONE_TASK.replace(from, to);
+        for (behaviour, name, wanted) in [
+            (otherwise("2,0,1,0,0", "2,0,0,0,0"), "chart.svg", "at tick 2 the program ticks answers otherwise"),
+            (otherwise("1,1,0", "1,2,0"), "chart.svg", "lists no rehearsal of this table"),
+            (otherwise("1,1,0", "1,1,3"), "chart.svg", "at tick 4 the program ticks answers otherwise"),
+            (otherwise("1,1,0", r"1,1,0\r\n2,1,0"), "chart.svg", "lists no rehearsal of this table"),
+            (ONE_TASK.into(), "nowhere/chart.svg", "cannot be written"),
+        ] {
+            let (stand_in, answer) = with_chart(&["rehearse", "ticks"], &behaviour, name);
+            match answer.err() {
+                Some(Trouble::NoChart(why)) => assert!(why.contains(wanted), "{why}"),
+                other => panic!("{wanted}: {other:?}"),
+            }
+            assert_eq!(fs::read(stand_in.unit.path.join("chart.svg")).unwrap(), b"old");
+            assert_eq!(fs::read_dir(&stand_in.unit.path).unwrap().count(), 4, "nothing is left");
+        }
+        let (_, not_built) = with_chart(&["rehearse"], ONE_TASK, "chart.svg");
+        assert!(matches!(not_built, Err(Trouble::NotBuilt(Program::Ticks))));
+        let changes = otherwise("rehearse) ", r"rehearse) [ -e here ] || { printf 'refused,row\r\n6,1\r\n'; exit; }; ");
+        let (_, changed) = with_chart(&["rehearse", "ticks"], &changes, "chart.svg");
+        assert!(matches!(changed, Err(Trouble::Changed)));
     }
 
     #[test]

@@ -32,6 +32,15 @@ pub struct Share {
     pub share: u64,
 }
 
+#[derive(Debug, Clone, Copy, PartialEq, Eq)]
+pub struct Rehearsed {
+    pub task: usize,
+    /// The jobs that it started before the rehearsal ended.
+    pub started: u32,
+    /// The tick at which it was late, if it is the lowest such task; else 0.
+    pub late: u32,
+}
+
 #[derive(Debug, Clone, PartialEq, Eq)]
 pub enum Listing<Row> {
     Refused(Refused),
@@ -39,6 +48,13 @@ pub enum Listing<Row> {
 }
 
 const MOST_TASKS: usize = 32;
+
+/// The last tick that a rehearsal may come to.
+const MOST_TICKS: u32 = 1_000_000;
+
+/// The numbers of document 01, and the one that `rehearse` alone gives.
+const LAST_REFUSAL: u32 = 16;
+const NO_SMALL_MULTIPLE: u32 = 17;
 
 /// What `admit` writes: a row for each task, in order, at least one.
 pub fn margins(bytes: &[u8]) -> Option<Listing<Margin>> {
@@ -102,8 +118,33 @@ pub fn shares(bytes: &[u8]) -> Option<Listing<Share>> {
     Some(Listing::Rows(rows.iter().enumerate().map(share).collect::<Option<_>>()?))
 }
 
+/// What `rehearse` writes: a row for each task, in order, at least one, and a late tick in one row at most.
+pub fn rehearsal(bytes: &[u8]) -> Option<Listing<Rehearsed>> {
+    let rows = match listing_to(bytes, "task,started,late", NO_SMALL_MULTIPLE)? {
+        Listing::Refused(refused) => {
+            let agrees = refused.number != NO_SMALL_MULTIPLE || refused.row == 0;
+            return agrees.then_some(Listing::Refused(refused));
+        }
+        Listing::Rows(rows) => rows,
+    };
+    let rehearsed = |(at, row): (usize, &Vec<&str>)| {
+        let [task, started, late] = row[..] else { return None };
+        let (started, late) = (small(started)?, small(late)?);
+        let agrees = number(task)? == at as u64 + 1 && started <= MOST_TICKS && late <= MOST_TICKS;
+        agrees.then_some(Rehearsed { task: at + 1, started, late })
+    };
+    let rows: Vec<Rehearsed> = rows.iter().enumerate().map(rehearsed).collect::<Option<_>>()?;
+    let late = rows.iter().filter(|row| row.late != 0).count();
+    ((1..=MOST_TASKS).contains(&rows.len()) && late <= 1).then_some(Listing::Rows(rows))
+}
+
 /// The rows under the header, or the refusal.
 fn listing<'a>(bytes: &'a [u8], header: &str) -> Option<Listing<Vec<&'a str>>> {
+    listing_to(bytes, header, LAST_REFUSAL)
+}
+
+/// The same, of a program whose refusals go up to this number.
+fn listing_to<'a>(bytes: &'a [u8], header: &str, last_refusal: u32) -> Option<Listing<Vec<&'a str>>> {
     let text = std::str::from_utf8(bytes).ok()?.strip_suffix("\r\n")?;
     let mut lines = text.split("\r\n");
     let first = lines.next()?;
@@ -112,16 +153,16 @@ fn listing<'a>(bytes: &'a [u8], header: &str) -> Option<Listing<Vec<&'a str>>> {
         return Some(Listing::Rows(rows));
     }
     match (first, &rows[..]) {
-        ("refused,row", [row]) => refusal(row).map(Listing::Refused),
+        ("refused,row", [row]) => refusal(row, last_refusal).map(Listing::Refused),
         _ => None,
     }
 }
 
-fn refusal(row: &[&str]) -> Option<Refused> {
+fn refusal(row: &[&str], last: u32) -> Option<Refused> {
     let [refused, row] = row else { return None };
     let number = small(refused)?;
     let row = usize::try_from(self::number(row)?).ok()?;
-    (1..=16).contains(&number).then_some(Refused { number, row })
+    (1..=last).contains(&number).then_some(Refused { number, row })
 }
 
 fn number(word: &str) -> Option<u64> {
@@ -222,6 +263,25 @@ mod tests {
         for rows in ["", "1,1,4,,16\r\n", "1,1,4,4,16\r\n1,2,6,4,24\r\n", "2,1,4,4,16\r\n", "1,2,4,4,16\r\n"] {
             assert_eq!(of(rows), None, "{rows}");
         }
+    }
+
+    #[test]
+    fn rehearse_listings() {
+        let of = |rows: &str| rehearsal(format!("task,started,late\r\n{rows}").as_bytes());
+        let two = [Rehearsed { task: 1, started: 2, late: 0 }, Rehearsed { task: 2, started: 0, late: 12 }];
+        assert_eq!(of("1,2,0\r\n2,0,12\r\n"), Some(Listing::Rows(two.to_vec())));
+        assert!(of("1,1000000,1000000\r\n").is_some());
+        for rows in ["", "2,1,0\r\n", "1,1\r\n", "1,1,0,0\r\n", "1,1,3\r\n2,1,3\r\n", "1,1,-3\r\n", "1,1000001,0\r\n"] {
+            assert_eq!(of(rows), None, "{rows}");
+        }
+        assert_eq!(of("1,1,1000001\r\n"), None);
+        assert_eq!(of(&(1..=33).map(|task| format!("{task},1,0\r\n")).collect::<String>()), None, "33 tasks");
+        let multiple = Refused { number: 17, row: 0 };
+        assert_eq!(rehearsal(b"refused,row\r\n17,0\r\n"), Some(Listing::Refused(multiple)));
+        for bytes in ["refused,row\r\n17,1\r\n", "refused,row\r\n18,0\r\n", "task,margin,pass\r\n1,2,1\r\n"] {
+            assert_eq!(rehearsal(bytes.as_bytes()), None, "{bytes}");
+        }
+        assert_eq!(margins(b"refused,row\r\n17,0\r\n"), None, "17 is the rehearsal's alone");
     }
 
     #[test]

@@ -3,11 +3,14 @@
 //!
 //! `typed` reads the words that were typed; `answer` asks the programs through `run` and takes their listings apart by
 //! `listing`; `unit` puts questions about copies of the unit's texts; `place` finds a proved place in a text, `cause`
-//! says how such a byte usually gets there, and `words` has what is said. `tidy` asks no program.
+//! says how such a byte usually gets there, and `words` has what is said. `chart` draws a rehearsal, which `bench`
+//! foresees so that it can be held against the programs. `tidy` asks no program.
 #![forbid(unsafe_code)]
 
 mod answer;
+mod bench;
 mod cause;
+mod chart;
 mod listing;
 mod place;
 mod run;
@@ -45,17 +48,25 @@ fn printed(text: &[u8]) -> u8 {
     }
 }
 
-/// The proved program's bytes to standard output, and only if they are out the words and the status.
+/// The proved program's bytes to standard output, and only if they are out a chart, the words and the status.
 fn answered(question: &Question, folder: &Path, quiet: bool) -> u8 {
     let answer = Programs::of_this_repository()
         .and_then(|programs| Asked { programs: &programs, folder, quiet }.answer(question));
-    match answer.and_then(|answer| written(&answer.bytes).map(|()| answer)) {
-        Ok(Answer { status, words, .. }) => {
+    match answer.and_then(given) {
+        Ok((status, words)) => {
             words::say(&words);
             status
         }
         Err(trouble) => failed(&trouble, quiet),
     }
+}
+
+fn given(answer: Answer) -> Result<(u8, String), Trouble> {
+    written(&answer.bytes)?;
+    if let Some(chart) = answer.chart {
+        chart.put().map_err(|error| Trouble::NoChart(format!("it cannot be put in its place: {error}")))?;
+    }
+    Ok((answer.status, answer.words))
 }
 
 /// Whole and flushed, so that a full disk is seen before the exit status is given.

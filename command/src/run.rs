@@ -13,6 +13,7 @@ pub enum Program {
     Admit,
     Ticks,
     Explain,
+    Rehearse,
 }
 
 impl Program {
@@ -21,6 +22,7 @@ impl Program {
             Program::Admit => "admit",
             Program::Ticks => "ticks",
             Program::Explain => "explain",
+            Program::Rehearse => "rehearse",
         }
     }
 }
@@ -35,9 +37,15 @@ pub enum Trouble {
     NotAFile(PathBuf),
     NotStarted(Program, io::Error),
     NoCopies(io::Error),
-    Failed { program: Program, ended: String, said: String },
+    Failed {
+        program: Program,
+        ended: String,
+        said: String,
+    },
     NoListing(Program),
     NoStandardOutput(io::Error),
+    /// Why a chart that was asked for cannot be had.
+    NoChart(String),
     Changed,
 }
 

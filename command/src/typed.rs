@@ -18,6 +18,7 @@ pub enum Question {
     Admit,
     Explain,
     Ticks { reports: Reports, every_row: bool },
+    Rehearse { chart: Option<PathBuf> },
 }
 
 #[derive(Debug, PartialEq, Eq)]
@@ -32,6 +33,7 @@ pub enum Request {
 struct Options {
     quiet: bool,
     every_row: bool,
+    chart: Option<PathBuf>,
     help: bool,
     version: bool,
 }
@@ -47,7 +49,7 @@ pub fn request(words: impl IntoIterator<Item = OsString>) -> Result<Request, Str
     }
     let mut named = named.into_iter();
     let name = named.next().ok_or("no command is given")?;
-    named_request(&name, named.collect(), &options)
+    named_request(&name, named.collect(), options)
 }
 
 /// Options apart from the other words; behind `--` no word is an option.
@@ -55,11 +57,14 @@ fn sorted(words: impl IntoIterator<Item = OsString>) -> Result<(Options, Vec<OsS
     let mut options = Options::default();
     let mut named = Vec::new();
     let mut open = true;
-    for word in words {
+    let mut words = words.into_iter();
+    while let Some(word) = words.next() {
         match word.to_str() {
             Some("--") if open => open = false,
             Some("--quiet" | "-q") if open => options.quiet = true,
             Some("--words") if open => options.every_row = true,
+            Some("--chart") if open && options.chart.is_some() => return Err("--chart is given twice".into()),
+            Some("--chart") if open => options.chart = Some(picture(words.next())?),
             Some("--help" | "-h") if open => options.help = true,
             Some("--version" | "-V") if open => options.version = true,
             _ if open && word.as_encoded_bytes().starts_with(b"-") && word != "-" => return Err(unknown(&word)),
@@ -69,9 +74,19 @@ fn sorted(words: impl IntoIterator<Item = OsString>) -> Result<(Options, Vec<OsS
     Ok((options, named))
 }
 
-fn named_request(name: &OsStr, rest: Vec<OsString>, options: &Options) -> Result<Request, String> {
+/// A picture replaces the file of its name: the ending keeps it off a unit's own texts.
+fn picture(word: Option<OsString>) -> Result<PathBuf, String> {
+    let path = PathBuf::from(word.unwrap_or_default());
+    let is_option = path.as_os_str().as_encoded_bytes().starts_with(b"-");
+    match path.extension().is_some_and(|ending| ending.eq_ignore_ascii_case("svg")) && !is_option {
+        true => Ok(path),
+        false => Err("behind --chart stands a file whose name ends in .svg".into()),
+    }
+}
+
+fn named_request(name: &OsStr, rest: Vec<OsString>, options: Options) -> Result<Request, String> {
     let most = match name.to_str() {
-        Some("admit" | "explain") => 1,
+        Some("admit" | "explain" | "rehearse") => 1,
         Some("ticks" | "tidy") => 2,
         _ => return Err(unknown(name)),
     };
@@ -80,6 +95,9 @@ fn named_request(name: &OsStr, rest: Vec<OsString>, options: &Options) -> Result
     }
     if options.every_row && name != "ticks" {
         return Err("--words belongs to ticks".into());
+    }
+    if options.chart.is_some() && name != "rehearse" {
+        return Err("--chart belongs to rehearse".into());
     }
     let quiet = options.quiet;
     let mut rest = rest.into_iter().map(PathBuf::from);
@@ -91,6 +109,7 @@ fn named_request(name: &OsStr, rest: Vec<OsString>, options: &Options) -> Result
     let (folder, question) = match name.to_str() {
         Some("admit") => (first, Question::Admit),
         Some("explain") => (first, Question::Explain),
+        Some("rehearse") => (first, Question::Rehearse { chart: options.chart }),
         _ => ticks(first, second, options.every_row),
     };
     Ok(Request::Ask { question, folder: folder.unwrap_or_else(|| ".".into()), quiet })
@@ -154,6 +173,33 @@ mod tests {
             ("ticks unit log.csv", "unit", file, false),
         ] {
             assert_eq!(asked(line), (Question::Ticks { reports, every_row }, folder.into(), false), "{line}");
+        }
+    }
+
+    #[test]
+    fn a_rehearsal_and_its_chart() {
+        let rehearse = |chart: Option<&str>| Question::Rehearse { chart: chart.map(PathBuf::from) };
+        for (line, folder, chart) in [
+            ("rehearse", ".", None),
+            ("rehearse unit", "unit", None),
+            ("rehearse unit --chart a.svg", "unit", Some("a.svg")),
+            ("--chart charts/A.SVG rehearse", ".", Some("charts/A.SVG")),
+            ("rehearse --chart ./-a.svg -- -unit", "-unit", Some("./-a.svg")),
+        ] {
+            assert_eq!(asked(line), (rehearse(chart), folder.into(), false), "{line}");
+        }
+        for line in [
+            "rehearse a b",
+            "rehearse --chart",
+            "rehearse --chart unit",
+            "rehearse --chart tasks.csv",
+            "rehearse --chart .svg",
+            "rehearse --chart -a.svg",
+            "rehearse --chart a.svg --chart b.svg",
+            "rehearse --words",
+            "admit --chart a.svg",
+        ] {
+            assert!(typed(line).is_err(), "{line}");
         }
     }
 

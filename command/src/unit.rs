@@ -94,7 +94,7 @@ impl Unit {
     ) -> Result<Option<&'static Form>, Trouble> {
         let forms: &[&'static Form] = match program {
             Program::Ticks => &[&PLATFORM, &TASKS, &REPORTS],
-            Program::Admit | Program::Explain => &[&PLATFORM, &TASKS],
+            Program::Admit | Program::Explain | Program::Rehearse => &[&PLATFORM, &TASKS],
         };
         for &form in forms {
             let bytes = self.alone(form).answer(programs, program)?;
@@ -126,6 +126,7 @@ fn refusal(program: Program, bytes: &[u8]) -> Option<Refused> {
         Program::Admit => listing::margins(bytes).map(refusal_of),
         Program::Ticks => listing::ticks(bytes).map(refusal_of),
         Program::Explain => listing::shares(bytes).map(refusal_of),
+        Program::Rehearse => listing::rehearsal(bytes).map(refusal_of),
     };
     refused.flatten()
 }

@@ -2,6 +2,7 @@
 
 pub mod margins;
 pub mod refusal;
+pub mod rehearsal;
 pub mod ticks;
 
 use crate::run::Trouble;
@@ -16,6 +17,8 @@ gorsetumble: judges a unit's folder by the proved programs, and says in words wh
 
   gorsetumble admit [FOLDER]            each task's margin, and whether the unit is admitted
   gorsetumble explain [FOLDER]          what each task takes of each task's limit
+  gorsetumble rehearse [FOLDER]         runs the table in one pattern of releases: is a job late?
+                                        --chart FILE.svg draws it, a lane for each task
   gorsetumble ticks [--words] [FOLDER] [REPORTS]
                                         runs a text of ticks: a file, - for standard input, or the
                                         folder's reports.csv; --words shows every row in words
@@ -28,8 +31,9 @@ gorsetumble: judges a unit's folder by the proved programs, and says in words wh
 FOLDER is the working folder where none is given; words behind -- are never options. The program's
 listing goes to standard output as it is, words for a person to standard error.
 
-Exit status: 0 admitted (ticks: every tick taken and none late); 1 not admitted (ticks: a tick
-refused or a job late); 2 the texts or the table refused; 3 could not run, or could not write.
+Exit status: 0 admitted (ticks: every tick taken and none late; rehearse: no job late); 1 not
+admitted (ticks: a tick refused or a job late; rehearse: a job late); 2 the texts or the table
+refused; 3 could not run, or could not write.
 ";
 
 pub const CHANGED: &str = "the folder changed meanwhile: run it again\n";
@@ -72,6 +76,7 @@ fn why(trouble: &Trouble) -> String {
         }
         Trouble::NoListing(program) => format!("what the program {} wrote is no listing of it", program.name()),
         Trouble::NoStandardOutput(error) => format!("standard output cannot be written: {error}"),
+        Trouble::NoChart(why) => format!("no chart is drawn: {why}"),
         Trouble::Changed => CHANGED.trim_end().into(),
     }
 }
@@ -124,6 +129,14 @@ pub fn tasks(numbers: &[usize]) -> String {
     }
 }
 
+/// "72", "1,000,000".
+pub fn grouped(number: u32) -> String {
+    match number {
+        0..=999 => number.to_string(),
+        _ => format!("{},{:03}", grouped(number / 1000), number % 1000),
+    }
+}
+
 /// "1 row", "2 rows", "no row".
 pub fn counted(count: usize, one: &str) -> String {
     match count {
@@ -159,6 +172,7 @@ mod tests {
         assert_eq!(counted(0, "row"), "no row");
         assert_eq!(counted(1, "row"), "1 row");
         assert_eq!(counted(2, "row"), "2 rows");
+        assert_eq!([0, 999, 1000, 12_034, 1_000_000].map(grouped), ["0", "999", "1,000", "12,034", "1,000,000"]);
     }
 
     #[test]

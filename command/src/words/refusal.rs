@@ -1,4 +1,4 @@
-//! Refusals 1 to 8 and 15 in words: where, what stands there, what may stand there, the likely cause, the cure.
+//! Refusals 1 to 8, 15 and 17 in words: where, what stands there, what may stand there, the likely cause, the cure.
 
 use super::{counted, shown};
 use crate::cause::{cause, Fault};
@@ -28,7 +28,8 @@ pub fn meaning(number: u32) -> &'static str {
         13 => "a task is released while its last job is unfinished",
         14 => "the machine's state is not one that set-up and ticks could leave",
         15 => "a text is not of the wanted form",
-        _ => "the room given for the answer is too short",
+        16 => "the room given for the answer is too short",
+        _ => "the least common multiple of the periods is above 1,000,000",
     }
 }
 
@@ -49,7 +50,8 @@ pub fn cure(number: u32) -> &'static str {
         13 => "the table was not admitted, or was not the one set up",
         14 => "set the unit up anew; if it comes back, the memory is overwritten by something else",
         15 => "look at the byte at the place",
-        _ => "give a longer buffer",
+        16 => "give a longer buffer",
+        _ => "round each T to periods that divide each other, as 50, 100 and 200, and rehearse again",
     }
 }
 
@@ -61,6 +63,15 @@ pub fn headline(number: u32) -> String {
 /// Of what is neither a text nor a table.
 pub fn of_number(number: u32) -> String {
     format!("  cure: {}\n", cure(number))
+}
+
+/// Refusal 17 of a rehearsal, which is about all periods together.
+pub fn of_periods() -> String {
+    let cause = "a rehearsal goes on until all tasks come together again; periods without a small\n    \
+        common multiple, as 1,000 and 1,001, come together too late for it";
+    let row_0 = "the listing says row 0: all periods together are at fault, and no single row";
+    let unjudged = "admit needs no common multiple: it judges the table as it stands";
+    format!("  where: tasks.csv, column T\n  cause: {cause}\n  {row_0}\n{}  {unjudged}\n", of_number(17))
 }
 
 /// A text by the name that it was given under, whether it is one of the unit's folder, and this folder.
@@ -329,6 +340,15 @@ mod tests {
             let offset = (0..=bytes.len()).find(|&at| place::place(form, bytes, at).is_some()).unwrap();
             assert!(of(form, bytes, offset).contains(&format!("  may stand there: {may}\n")), "{text:?}");
         }
+    }
+
+    #[test]
+    fn periods_without_a_small_multiple() {
+        let words = headline(17) + &of_periods();
+        for said in ["above 1,000,000\n", "  where: tasks.csv, column T\n", "row 0", "  cure: round each T"] {
+            assert!(words.contains(said), "{words}");
+        }
+        assert!(words.lines().all(|line| line.chars().count() <= 100), "{words}");
     }
 
     #[test]

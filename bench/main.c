@@ -3,6 +3,7 @@
 // of a case too, those of that case only.
 #include "rounds.h"
 #include "texts.c"
+#include "periods.c"
 
 int printf(const char *form, ...);
 int fflush(void *stream);
@@ -91,6 +92,9 @@ static u64 full_proved(const input *x, u64 n) { return proved_full(x->words, WOR
 static u64 full_plain(const input *x, u64 n) { return plain_full(x->words, WORDS, x->p, x->q, n); }
 static u64 quick_proved(const input *x, u64 n) { return proved_quick(x->words, WORDS, x->p, x->q, n); }
 static u64 quick_plain(const input *x, u64 n) { return plain_quick(x->words, WORDS, x->p, x->q, n); }
+static u64 rehearsal_proved(const input *x, u64 n) { return proved_rehearsal(x->words, WORDS, x->p, x->q, n); }
+static u64 events_plain(const input *x, u64 n) { return plain_rehearsal_by_events(x->words, WORDS, x->p, x->q, n); }
+static u64 ticks_one_by_one(const input *x, u64 n) { return plain_rehearsal_by_ticks(x->words, WORDS, x->p, x->q, n); }
 
 // Ticks in lots, each from a fresh machine.
 static u64 in_lots(u64 f(const u32 *, u64, const u32 *, u64), const input *x, u64 n) {
@@ -254,10 +258,45 @@ static int text_cases(void) {
     return 0;
 }
 
+// How dense its events are, by the periods and their common multiple.
+typedef struct {
+    const char *how;
+    u32 l, shortest, longest, cores;
+    int is_late;
+} pattern;
+
+static int rehearsal_case(const pattern *a, u32 n, int tick_by_tick) {
+    const char *what = tick_by_tick ? "rehearsal, C by ticks" : "rehearsal";
+    input *x = add(what, n, a->how, rehearsal_proved, tick_by_tick ? ticks_one_by_one : events_plain);
+    x->lot = 1;
+    if (left_out(case_count)) return 0;
+    periods_words(x->words, n, a->cores, a->l, a->shortest, a->longest);
+    x->p = x->words[2];
+    x->q = x->p - 1;
+    table t = table_of(x->words, WORDS);
+    rehearsal got;
+    rehearse(&t, 0, &got);
+    if (got.refused.number || !got.task != !a->is_late) return printf("%s, %u tasks: not %s\n", what, n, a->how);
+    return 0;
+}
+
+static int rehearsal_cases(void) {
+    static const u32 sizes[3] = {4, 16, 32};
+    static const pattern patterns[4] = {{"periods 4 to 10", 2520, 4, 10, 8, 0},
+                                        {"periods 10 to 1,008", 5040, 10, 1008, 8, 0},
+                                        {"late early", 5040, 10, 1008, 1, 1},
+                                        {"periods 1,008 to 55,440", 55440, 1008, 55440, 8, 0}};
+    int bad = 0;
+    for (int k = 0; k < 4; k++)
+        for (int i = 0; i < 3; i++) bad += rehearsal_case(&patterns[k], sizes[i], 0);
+    for (int i = 0; i < 3; i++) bad += rehearsal_case(&patterns[3], sizes[i], 1);
+    return bad;
+}
+
 int main(int count, char **words) {
     for (const char *digit = count > 2 ? words[2] : ""; *digit; digit++) only = 10 * only + (*digit - '0');
     if (only) printf("main %lx\n", (u64)&main);
-    int bad = admission_cases() + tick_cases() + text_cases();
+    int bad = admission_cases() + tick_cases() + text_cases() + rehearsal_cases();
     for (int i = 0; i < case_count; i++)
         if (!left_out(i + 1)) bad += count > 1 ? counted(&cases[i]) : timed(&cases[i]);
     return bad != 0;

@@ -8,7 +8,8 @@ typedef unsigned int u32;
 typedef unsigned long u64;
 typedef long i64;
 
-enum { MOST_TASKS = 32, MOST_CORES = 16, MOST_PARTITIONS = 64, LONGEST_PERIOD = 65535, LONGEST_TEXT = 60000 };
+enum { MOST_TASKS = 32, MOST_CORES = 16, MOST_PARTITIONS = 64 };
+enum { LONGEST_PERIOD = 65535, LONGEST_TEXT = 60000, LONGEST_REHEARSAL = 1000000 };
 
 typedef struct {
     u32 d, t, c, a;
@@ -57,12 +58,21 @@ typedef struct {
     u32 finished, late, started;
 } answer;
 
+// The first tick at which a job is late and the lowest such task, or 0 and 0; the jobs that each task started before.
+typedef struct {
+    refusal refused;
+    u32 tick;
+    u64 task;
+    u32 started[MOST_TASKS];
+} rehearsal;
+
 u32 row_refused(const task *r, u32 partitions);
 refusal table_refused(const table *t);
 void full_answer(const table *t, full *answer);
 void quick_answer(const table *t, quick *answer);
 void machine_fresh(machine *m, const table *t);
 void machine_tick(machine *m, u32 released, u32 finished, answer *answer);
+void rehearse(const table *t, int tick_by_tick, rehearsal *answer);
 refusal read_platform(const u8 *s, u64 length, table *t);
 refusal read_tasks(const u8 *s, u64 length, table *t);
 refusal read_ticks(const u8 *s, u64 length, u64 *count);

@@ -4,6 +4,7 @@
 #include "rounds.h"
 #include "plain_admission.c"
 #include "plain_machine.c"
+#include "plain_rehearsal.c"
 #include "plain_texts.c"
 
 static u64 fold(u64 h, u64 x) { return h % 4294967296 * 31 + x % 4294967296; }
@@ -70,6 +71,42 @@ u64 plain_quick(const u32 *words, u64 count, u32 p, u32 q, u64 n) {
         h = fold(fold(h, a.refused.number), a.first);
     }
     return h;
+}
+
+// Of the jobs started, those of one task are folded in, of another in each round.
+static u64 fold_rehearsal(u64 h, u32 number, u32 tick, u64 task, u32 started) {
+    return fold(fold(fold(fold(h, number), tick), task), started);
+}
+
+u64 proved_rehearsal(const u32 *words, u64 count, u32 p, u32 q, u64 n) {
+    table t = table_of(words, count);
+    u64 h = 0;
+    for (u64 i = 0; i < n; i++) {
+        gorsetumble_rehearsal a =
+            gorsetumble_rehearse((gorsetumble_platform){t.cores, i % 2 == 0 ? p : q}, lent(&t), t.n);
+        h = fold_rehearsal(h, a.refused.number, a.tick, a.task, a.started[i % MOST_TASKS]);
+    }
+    return h;
+}
+
+static u64 plain_rehearsal(const u32 *words, u64 count, u32 p, u32 q, u64 n, int tick_by_tick) {
+    table t = table_of(words, count);
+    u64 h = 0;
+    for (u64 i = 0; i < n; i++) {
+        rehearsal a;
+        t.partitions = i % 2 == 0 ? p : q;
+        rehearse(&t, tick_by_tick, &a);
+        h = fold_rehearsal(h, a.refused.number, a.tick, a.task, a.started[i % MOST_TASKS]);
+    }
+    return h;
+}
+
+u64 plain_rehearsal_by_events(const u32 *words, u64 count, u32 p, u32 q, u64 n) {
+    return plain_rehearsal(words, count, p, q, n, 0);
+}
+
+u64 plain_rehearsal_by_ticks(const u32 *words, u64 count, u32 p, u32 q, u64 n) {
+    return plain_rehearsal(words, count, p, q, n, 1);
 }
 
 u64 plain_ticks(const u32 *words, u64 count, const u32 *reports, u64 report_words) {

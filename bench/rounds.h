@@ -13,6 +13,11 @@ u64 plain_full(const u32 *words, u64 count, u32 p, u32 q, u64 n);
 u64 proved_quick(const u32 *words, u64 count, u32 p, u32 q, u64 n);
 u64 plain_quick(const u32 *words, u64 count, u32 p, u32 q, u64 n);
 
+// Rounds of a rehearsal, likewise on p and q partitions in turn.
+u64 proved_rehearsal(const u32 *words, u64 count, u32 p, u32 q, u64 n);
+u64 plain_rehearsal_by_events(const u32 *words, u64 count, u32 p, u32 q, u64 n);
+u64 plain_rehearsal_by_ticks(const u32 *words, u64 count, u32 p, u32 q, u64 n);
+
 // Ticks of a fresh machine, one for each report: their words stand two by two, released and finished. Both tick a
 // machine in its place.
 u64 proved_ticks(const u32 *words, u64 count, const u32 *reports, u64 report_words);

@@ -5,6 +5,7 @@ use Prim.Native.Nat.{ℕ, zero, suc, _<_}
 use mathlib.Core.Path.{_≡_, refl, sym, _∙_, ap, subst}
 use mathlib.Core.Bool.{Bool, true, false}
 use mathlib.Core.List.{List, [], _∷_, _++_}
+use mathlib.Core.Logic.{_≢_}
 use native.Mathlib.Omega.{arith}
 use lib.ListN.{length}
 use Rattle.table.specs.declared.Table.{Table}
@@ -17,11 +18,13 @@ use Rattle.promise.specs.Sequences.{Report, told, accepts, Step, step, counted,
 use Rattle.promise.specs.Promise.{Admitted}
 use Rattle.promise.proofs.Demand3.{demand-3}
 use Rattle.promise.proofs.Test.{safe}
+use Rattle.rehearsal.specs.declared.Rehearsal.{Rehearsal}
 use Rattle.rehearsal.specs.Multiple.{multiple}
-use Rattle.rehearsal.specs.Rehearsal.{releasedAt, full, lateNow, Outcome}
+use Rattle.rehearsal.specs.Rehearsal.{releasedAt, full, lateNow, Outcome, rehearsal, rehearsed}
 use Rattle.rehearsal.specs.Bench.{benchAt, NeverLate}
 use Rattle.rehearsal.proofs.ByTick.{bench-fresh, bench-next, bench-good}
 use Rattle.rehearsal.proofs.Ends.{calm-outcome}
+use Rattle.rehearsal.proofs.Answers.{Answered, own, large, ticked, answered}
 
 -- the machine after all the reports, accepted or not
 abbrev endOf : Machine → List Report → Machine
@@ -78,11 +81,27 @@ admitted-calm t a xs good =
     ∙ (sym (ap (λ (st : Step). st .answer .late) (n .last))
     ∙ demand-3 t a (xs ++ (x ∷ [])) .notLate (length (steps (fresh t) xs)) (n .longer))
 
-pub never-late : NeverLate
-never-late t a =
+-- no task is named, and no tick
+calm : (t : Table) → Admitted t → (rehearsal t .tick ≡ 0) × (rehearsal t .task ≡ 0)
+calm t a =
     let s = safe t a in
-    ap (λ (o : Outcome). o .task)
-    (calm-outcome t
+    let o = calm-outcome t
     (λ j l.
     let good : GoodState (benchAt t j) = bench-good t (record { whole = s .whole; unrefused = s .unrefused }) j in
-    rw (is-bench t j) at (admitted-calm t a (reports t j) (rw (is-bench t j) good))))
+    rw (is-bench t j) at (admitted-calm t a (reports t j) (rw (is-bench t j) good))) in
+    (ap (λ (x : Outcome). x .tick) o, ap (λ (x : Outcome). x .task) o)
+
+-- the answer, by its three cases; an admitted table is not refused for itself
+answer-calm : (t : Table) → Admitted t → Answered t → (rehearsed t .tick ≡ 0) × (rehearsed t .task ≡ 0)
+answer-calm t a (own some e) = rw e (refl, refl)
+answer-calm t a (large e) = rw e (refl, refl)
+answer-calm t a (ticked none small e) = rw e (calm t a)
+
+only-17 : (t : Table) → Admitted t → Answered t → rehearsed t .refused .number ≢ 0 → rehearsed t .refused .number ≡ 17
+only-17 t a (own some e) h = absurd (some (safe t a .unrefused))
+only-17 t a (large e) h = ap (λ (r : Rehearsal). r .refused .number) e
+only-17 t a (ticked none small e) h = absurd (h (ap (λ (r : Rehearsal). r .refused .number) e))
+
+pub never-late : NeverLate
+never-late t a =
+    record { never = calm t a .1; answer = answer-calm t a (answered t); refused = only-17 t a (answered t) }

@@ -19,7 +19,7 @@ use Rattle.machine.specs.Jobs.{idles}
 use Rattle.machine.specs.Fresh.{fresh}
 use Rattle.promise.specs.Promise.{Admitted}
 use Rattle.rehearsal.specs.Multiple.{multiple, IsLeast}
-use Rattle.rehearsal.specs.Rehearsal.{lateNow, benchTick, noneStarted, andStarted, rehearsal}
+use Rattle.rehearsal.specs.Rehearsal.{lateNow, benchTick, noneStarted, andStarted, rehearsal, rehearsed}
 
 -- The machine before tick i, were the rehearsal to go on to it; and what tick i makes of it.
 unfoldable pub benchAt : Table → ℕ → Machine
@@ -81,5 +81,11 @@ pub record Bench (t : Table) : Type 0 where
 abbrev pub EveryBench : Type 0
 EveryBench = (t : Table) → Unrefused t → Bench t
 
+-- An admitted table has no late job, whatever its L: `rehearse` names none, and refuses it under 17 or not at all.
+pub record AdmittedBench (t : Table) : Type 0 where
+  pub never : rehearsal t .task ≡ 0
+  pub answer : (rehearsed t .tick ≡ 0) × (rehearsed t .task ≡ 0)
+  pub refused : rehearsed t .refused .number ≢ 0 → rehearsed t .refused .number ≡ 17
+
 abbrev pub NeverLate : Type 0
-NeverLate = (t : Table) → Admitted t → rehearsal t .task ≡ 0
+NeverLate = (t : Table) → Admitted t → AdmittedBench t

@@ -4,7 +4,6 @@ pub mod Multiple
 pub mod OnBench
 pub mod Members
 pub mod From
-pub mod Bounded
 pub mod Answers
 pub mod ByTick
 pub mod Ends
@@ -20,3 +19,4 @@ pub mod AtEnd
 pub mod Aged
 pub mod Still
 pub mod Leap
+pub mod Sizes

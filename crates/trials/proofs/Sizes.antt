@@ -16,7 +16,7 @@ use Rattle.rehearsal.specs.declared.Rehearsal.{Rehearsal}
 use Rattle.rehearsal.specs.Multiple.{multiple, mostMultiple}
 use Rattle.rehearsal.specs.Rehearsal.{rehearsal, rehearsed}
 use Rattle.rehearsal.proofs.Answers.{went, Answered, own, large, ticked, answered}
-use Rattle.rehearsal.proofs.Bounded.{bounded-rehearsal}
+use Rattle.rehearsal.proofs.Sizes.{bounded-rehearsal}
 use Rattle.trials.specs.Code.Trials.{Fits}
 use Rattle.trials.specs.Rehearse.{tried, rehearseText, rehearseMost, RehearseFits}
 use Rattle.trials.proofs.Trials.{tried-refused, tried-listed, Narrow, trial-most}

@@ -1,4 +1,4 @@
-// The plain C version of the work that bench/ times: documents 01 and 02 again, without a proof.
+// The plain C version of the work that bench/ times: document 01 again, without a proof.
 // The kit's clang brings no header files, so that the sizes are named here.
 #ifndef PLAIN_H
 #define PLAIN_H

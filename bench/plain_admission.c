@@ -22,60 +22,39 @@ refusal table_refused(const table *t) {
 }
 
 static u32 larger(u32 x, u32 y) { return x < y ? y : x; }
-static u32 smaller(u32 x, u32 y) { return x < y ? x : y; }
 
-// What task k is judged by. A charge is at most s, so that a limit and a load stay below 2^31.
-typedef struct {
-    u32 cores, b, s, limit;
-} measure;
-
-// `most` is the largest A so far.
-static measure measured(const table *t, u64 k, u32 *most) {
-    const task *r = &t->rows[k];
-    *most = larger(*most, r->a);
-    u32 b = t->partitions - *most + 1, s = r->d - r->c;
-    return (measure){t->cores, b, s, t->cores * b * s};
+// What a task adds to the load of one with slack s and blocking b.
+static u64 term(const task *r, u32 cores, u32 b, u32 s) {
+    return (u64)larger(b, cores * r->a) * ((u64)(s / r->t + 2) * r->c);
 }
-
-static u32 weight(const task *r, measure m) { return larger(m.b, m.cores * r->a); }
-
-// Lemma 2 of the report, of a task above k: the jobs released in the slack, and what is left of the one before them.
-static u32 from_above(const task *r, measure m) {
-    if (m.s < r->c) return weight(r, m) * m.s;
-    u32 x = m.s - r->c, rest = x % r->t, gap = r->t - r->d;
-    u32 carried = rest > gap ? smaller(r->c, rest - gap) : 0;
-    return weight(r, m) * (x / r->t * r->c + r->c + carried);
-}
-
-// Of a task below k: one job at most.
-static u32 from_below(const task *r, measure m) { return weight(r, m) * smaller(r->c, m.s); }
 
 void full_answer(const table *t, full *answer) {
     *answer = (full){.refused = table_refused(t)};
     if (answer->refused.number) return;
     u32 most = 0;
     for (u64 k = 0; k < t->n; k++) {
-        measure m = measured(t, k, &most);
-        u32 load = 0;
-        for (u64 i = 0; i < k; i++) load += from_above(&t->rows[i], m);
-        for (u64 i = k + 1; i < t->n; i++) load += from_below(&t->rows[i], m);
-        answer->margins[k] = (i64)m.limit - load;
-        if (load >= m.limit && !answer->first) answer->first = k + 1;
+        most = larger(most, t->rows[k].a);
+        u32 b = t->partitions - most + 1, s = t->rows[k].d - t->rows[k].c;
+        u64 load = 0;
+        for (u64 i = 0; i < t->n; i++) load += term(&t->rows[i], t->cores, b, s);
+        i64 margin = (i64)((u64)t->cores * b * s) - (i64)load;
+        answer->margins[k] = margin;
+        if (margin <= 0 && !answer->first) answer->first = k + 1;
     }
     answer->admitted = !answer->first;
 }
 
-// All loops are left where a load reaches its limit; without slack both are 0.
+// Both loops are left where a load reaches its limit.
 static u64 first_failing(const table *t) {
     u32 most = 0;
     for (u64 k = 0; k < t->n; k++) {
-        measure m = measured(t, k, &most);
-        u32 load = 0;
-        if (!m.s) return k + 1;
-        for (u64 i = 0; i < k; i++)
-            if ((load += from_above(&t->rows[i], m)) >= m.limit) return k + 1;
-        for (u64 i = k + 1; i < t->n; i++)
-            if ((load += from_below(&t->rows[i], m)) >= m.limit) return k + 1;
+        most = larger(most, t->rows[k].a);
+        u32 b = t->partitions - most + 1, s = t->rows[k].d - t->rows[k].c;
+        u64 limit = (u64)t->cores * b * s, load = 0;
+        for (u64 i = 0; i < t->n; i++) {
+            load += term(&t->rows[i], t->cores, b, s);
+            if (load >= limit) return k + 1;
+        }
     }
     return 0;
 }

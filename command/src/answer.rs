@@ -274,8 +274,8 @@ mod tests {
     use std::fs;
     use std::os::unix::fs::symlink;
 
-    const PLATFORM_TWO: &str = "cores,partitions\r\n1,2\r\n";
-    const TASKS_TWO: &str = "D,T,C,A\r\n6,6,2,2\r\n7,9,4,2\r\n";
+    const PLATFORM_P2: &str = "cores,partitions\r\n1,1\r\n";
+    const TASKS_TWO: &str = "D,T,C,A\r\n6,6,2,1\r\n7,9,3,1\r\n";
 
     /// A repository whose programs do what a piece of bash says, and a unit's folder, which alone has a file `here`.
     struct StandIn {
@@ -295,7 +295,7 @@ mod tests {
             }
             root.put("behaviour", behaviour.as_bytes()).unwrap();
             unit.put("here", b"").unwrap();
-            unit.put("platform.csv", PLATFORM_TWO.as_bytes()).unwrap();
+            unit.put("platform.csv", PLATFORM_P2.as_bytes()).unwrap();
             unit.put("tasks.csv", TASKS_TWO.as_bytes()).unwrap();
             stand_in
         }
@@ -314,27 +314,29 @@ mod tests {
     const TICKS: Question = Question::Ticks { reports: Reports::OfFolder, every_row: false };
 
     const TWO_FAIL: &str = r"case $1 in
-        admit) printf 'task,margin,pass\r\n1,-4,0\r\n2,-3,0\r\n' ;;
+        admit) printf 'task,margin,pass\r\n1,-6,0\r\n2,-6,0\r\n' ;;
         explain)
-            printf 'task,other,interference,weight,share\r\n1,1,0,2,0\r\n1,2,4,2,8\r\n'
-            printf '2,1,3,2,6\r\n2,2,0,2,0\r\n' ;;
+            printf 'task,other,interference,weight,share\r\n1,1,4,1,4\r\n1,2,6,1,6\r\n'
+            printf '2,1,4,1,4\r\n2,2,6,1,6\r\n' ;;
         esac";
 
     #[test]
     fn who_takes_what_of_a_task_that_does_not_pass() {
         let stand_in = StandIn::new(&["admit", "explain"], TWO_FAIL);
         let (bytes, status, words) = stand_in.answer(&Question::Admit);
-        assert_eq!(bytes, "task,margin,pass\r\n1,-4,0\r\n2,-3,0\r\n");
+        assert_eq!(bytes, "task,margin,pass\r\n1,-6,0\r\n2,-6,0\r\n");
         assert_eq!(status, NOT_ADMITTED);
-        let wanted = "not admitted: tasks 1 and 2 of 2 do not pass; the least margin is task 1's, -4\n\
-            task 1: margin -4: it passes from 1 on, 5 more\n\
+        let wanted = "not admitted: tasks 1 and 2 of 2 do not pass; the least margin is task 1's, -6\n\
+            task 1: margin -6: it passes from 1 on, 7 more\n\
             \x20 slack: D - C = 6 - 2 = 4 ticks\n\
-            \x20 load 8, limit 4: the load must fall below the limit: by at least 5\n\
-            \x20   task 2, below it, takes 8 of 8 (100 %)\n\
-            task 2: margin -3: it passes from 1 on, 4 more\n\
-            \x20 slack: D - C = 7 - 4 = 3 ticks\n\
-            \x20 load 6, limit 3: the load must fall below the limit: by at least 4\n\
-            \x20   task 1, above it, takes 6 of 6 (100 %)\n\
+            \x20 load 10, limit 4: the load must fall below the limit: by at least 7\n\
+            \x20   task 2 takes 6 of 10 (60 %)\n\
+            \x20   its own jobs take 4 of 10 (40 %)\n\
+            task 2: margin -6: it passes from 1 on, 7 more\n\
+            \x20 slack: D - C = 7 - 3 = 4 ticks\n\
+            \x20 load 10, limit 4: the load must fall below the limit: by at least 7\n\
+            \x20   its own jobs take 6 of 10 (60 %)\n\
+            \x20   task 1 takes 4 of 10 (40 %)\n\
             usually helps (no theorem";
         assert!(words.starts_with(wanted), "{words}");
         let (bytes, status, explained) = stand_in.answer(&Question::Explain);
@@ -346,14 +348,14 @@ mod tests {
     fn without_explain_there_are_margins_only() {
         let (_, status, words) = StandIn::new(&["admit"], TWO_FAIL).answer(&Question::Admit);
         assert_eq!(status, NOT_ADMITTED);
-        assert!(words.contains("task 2: margin -3: it passes from 1 on, 4 more\nno words for it: the program explain"));
+        assert!(words.contains("task 2: margin -6: it passes from 1 on, 7 more\nno words for it: the program explain"));
     }
 
     #[test]
     fn a_folder_that_changes_gets_no_words_and_keeps_its_status() {
         let behaviour = r"case $1,$([ -e here ] && echo unit) in
-            admit,unit) printf 'task,margin,pass\r\n1,-4,0\r\n2,-3,0\r\n' ;;
-            admit,) printf 'task,margin,pass\r\n1,-4,0\r\n2,-5,0\r\n' ;;
+            admit,unit) printf 'task,margin,pass\r\n1,-6,0\r\n2,-6,0\r\n' ;;
+            admit,) printf 'task,margin,pass\r\n1,-6,0\r\n2,-7,0\r\n' ;;
             explain,unit) printf 'refused,row\r\n6,1\r\n' ;;
             explain,) printf 'refused,row\r\n6,2\r\n' ;;
             ticks,unit) printf 'refused,row\r\n15,3\r\n' ;;
@@ -372,7 +374,7 @@ mod tests {
         assert_eq!((refused.1, refused.2.as_str()), (REFUSED, words::CHANGED));
         let explain = r"case $1 in
             admit) printf 'refused,row\r\n6,1\r\n' ;;
-            explain) printf 'task,other,interference,weight,share\r\n1,1,0,1,0\r\n' ;;
+            explain) printf 'task,other,interference,weight,share\r\n1,1,4,1,4\r\n' ;;
             esac";
         let changed = StandIn::new(&["admit", "explain"], explain).ask(&Question::Explain);
         assert!(matches!(changed, Err(Trouble::Changed)));
@@ -533,7 +535,7 @@ mod tests {
         assert!(matches!(no(&[], "exit 0"), Some(Trouble::NotBuilt(Program::Admit))));
         assert!(matches!(no(&["admit"], "exit 0"), Some(Trouble::NoListing(Program::Admit))));
         assert!(matches!(no(&["admit"], "printf 'task,margin,pass\\r\\n'"), Some(Trouble::NoListing(_))));
-        let good_but_failed = r"printf 'task,margin,pass\r\n1,276,1\r\n'; echo oh >&2; exit 7";
+        let good_but_failed = r"printf 'task,margin,pass\r\n1,232,1\r\n'; echo oh >&2; exit 7";
         match no(&["admit"], good_but_failed) {
             Some(Trouble::Failed { ended, said, .. }) => assert_eq!((&*ended, &*said), ("exit status 7", "oh\n")),
             other => panic!("{other:?}"),

@@ -113,10 +113,7 @@ pub fn shares(bytes: &[u8]) -> Option<Listing<Share>> {
         let of = Share { task: at / tasks + 1, other: at % tasks + 1, share: number(share)? };
         let agrees = number(task)? == of.task as u64 && number(other)? == of.other as u64;
         // That a share is interference times weight is the program's theorem, and not asked again here.
-        let numbers = number(interference).and(number(weight)).is_some();
-        // A task takes nothing of its own limit: the words rest on it.
-        let own = of.task == of.other && of.share != 0;
-        (agrees && numbers && !own).then_some(of)
+        (agrees && number(interference).and(number(weight)).is_some()).then_some(of)
     };
     Some(Listing::Rows(rows.iter().enumerate().map(share).collect::<Option<_>>()?))
 }
@@ -197,11 +194,11 @@ mod tests {
     #[test]
     fn admit_listings() {
         let rows = vec![
-            Margin { task: 1, margin: 276, passes: true },
+            Margin { task: 1, margin: 232, passes: true },
             Margin { task: 2, margin: 0, passes: false },
             Margin { task: 3, margin: -4, passes: false },
         ];
-        assert_eq!(margins(b"task,margin,pass\r\n1,276,1\r\n2,0,0\r\n3,-4,0\r\n"), Some(Listing::Rows(rows)));
+        assert_eq!(margins(b"task,margin,pass\r\n1,232,1\r\n2,0,0\r\n3,-4,0\r\n"), Some(Listing::Rows(rows)));
         let refused = Listing::Refused(Refused { number: 15, row: 59999 });
         assert_eq!(margins(b"refused,row\r\n15,59999\r\n"), Some(refused));
     }
@@ -213,16 +210,16 @@ mod tests {
             b"\r\n",
             b"task,margin,pass",
             b"task,margin,pass\r\n",
-            b"task,margin,pass\r\n1,276,1",
-            b"task,margin,pass\r\n1,276,1\n",
-            b"task,margin,pass\r\n1,276,1\r\n\r\n",
-            b"task,margin,pass\r\n1,276,0\r\n",
+            b"task,margin,pass\r\n1,232,1",
+            b"task,margin,pass\r\n1,232,1\n",
+            b"task,margin,pass\r\n1,232,1\r\n\r\n",
+            b"task,margin,pass\r\n1,232,0\r\n",
             b"task,margin,pass\r\n1,0,1\r\n",
             b"task,margin,pass\r\n1,-0,0\r\n",
             b"task,margin,pass\r\n1,+1,1\r\n",
             b"task,margin,pass\r\n1,01,1\r\n",
-            b"task,margin,pass\r\n2,276,1\r\n",
-            b"task,margin,pass\r\n1,276,1,1\r\n",
+            b"task,margin,pass\r\n2,232,1\r\n",
+            b"task,margin,pass\r\n1,232,1,1\r\n",
             b"refused,row\r\n",
             b"refused,row\r\n0,0\r\n",
             b"refused,row\r\n17,0\r\n",
@@ -233,7 +230,7 @@ mod tests {
         }
         let full: String = (1..=33).map(|k| format!("{k},1,1\r\n")).collect();
         assert_eq!(margins(format!("task,margin,pass\r\n{full}").as_bytes()), None);
-        assert_eq!(margins(b"\xFFtask,margin,pass\r\n1,276,1\r\n"), None);
+        assert_eq!(margins(b"\xFFtask,margin,pass\r\n1,232,1\r\n"), None);
     }
 
     #[test]
@@ -251,22 +248,21 @@ mod tests {
         {
             assert_eq!(of(rows), None, "{rows}");
         }
-        assert_eq!(ticks(b"task,margin,pass\r\n1,276,1\r\n"), None);
+        assert_eq!(ticks(b"task,margin,pass\r\n1,232,1\r\n"), None);
     }
 
     #[test]
     fn explain_listings() {
         let header = "task,other,interference,weight,share\r\n";
         let of = |rows: &str| shares(format!("{header}{rows}").as_bytes());
-        assert_eq!(of("1,1,0,4,0\r\n"), Some(Listing::Rows(vec![Share { task: 1, other: 1, share: 0 }])));
-        let two = "1,1,0,4,0\r\n1,2,3,4,12\r\n2,1,4,3,12\r\n2,2,0,4,0\r\n";
-        let wanted = [(1, 1, 0), (1, 2, 12), (2, 1, 12), (2, 2, 0)];
+        assert_eq!(of("1,1,4,4,16\r\n"), Some(Listing::Rows(vec![Share { task: 1, other: 1, share: 16 }])));
+        let two = "1,1,4,4,16\r\n1,2,6,4,24\r\n2,1,4,3,12\r\n2,2,6,3,18\r\n";
+        let wanted = [(1, 1, 16), (1, 2, 24), (2, 1, 12), (2, 2, 18)];
         let wanted = wanted.map(|(task, other, share)| Share { task, other, share });
         assert_eq!(of(two), Some(Listing::Rows(wanted.to_vec())));
-        for rows in ["", "1,1,0,,0\r\n", "1,1,0,4,0\r\n1,2,3,4,12\r\n", "2,1,0,4,0\r\n", "1,2,0,4,0\r\n"] {
+        for rows in ["", "1,1,4,,16\r\n", "1,1,4,4,16\r\n1,2,6,4,24\r\n", "2,1,4,4,16\r\n", "1,2,4,4,16\r\n"] {
             assert_eq!(of(rows), None, "{rows}");
         }
-        assert_eq!(of("1,1,4,4,16\r\n"), None, "a share of its own limit");
     }
 
     #[test]

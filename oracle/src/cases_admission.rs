@@ -1,13 +1,12 @@
 //! Cases of kind A: a table, and both admission answers.
 
-use crate::admission::{full, measures, quick, Full, WorstCase};
+use crate::admission::{full, quick};
 use crate::counts::Counts;
 use crate::draw::tables;
 use crate::files::Pair;
 use crate::records::Value;
 use crate::rng::Rng;
 use crate::table::{Refused, Row, Table, ROWS};
-use std::cmp::Ordering;
 use std::io;
 
 /// n, M, P and 32 rows.
@@ -25,8 +24,8 @@ pub fn refused_values(refused: Option<Refused>) -> [Value; 2] {
     [Value::Number(number.into()), Value::Number(at.into())]
 }
 
-fn answer_values(table: &Table, full: &Full) -> Vec<Value> {
-    let quick = quick(table);
+fn answer_values(table: &Table) -> Vec<Value> {
+    let (full, quick) = (full(table), quick(table));
     let mut all = refused_values(full.refused).to_vec();
     all.extend([Value::Number(full.admitted.into()), Value::Number(full.first.into())]);
     let margins = full.margins.iter().copied().chain(std::iter::repeat(0)).take(ROWS);
@@ -36,27 +35,9 @@ fn answer_values(table: &Table, full: &Full) -> Vec<Value> {
     all
 }
 
-/// The charges that a table can have, by what the rule makes of them; `mark` has them by their place here.
-const CHARGES: [&str; 11] = [
-    "a higher task, S below C",
-    "a higher task, S = C",
-    "a higher task, body jobs",
-    "a higher task, w = 0, the remainder below T - D",
-    "a higher task, w = 0, the remainder T - D",
-    "a higher task, w from 1 to C - 1",
-    "a higher task, w = C, the remainder just so much",
-    "a higher task, w = C, the remainder more",
-    "a lower task, S below C",
-    "a lower task, S = C",
-    "a lower task, S above C",
-];
-
-const OUTCOMES: [&str; 17] = [
+const OUTCOMES: [&str; 13] = [
     "admitted",
-    "admitted, least margin at most M times P",
-    "admitted, body jobs",
     "not admitted",
-    "32 tasks, not refused",
     "refused 1",
     "refused 2",
     "refused 3",
@@ -66,72 +47,30 @@ const OUTCOMES: [&str; 17] = [
     "refused 7",
     "refused 8",
     "a margin of -1",
-    "a margin of 0, D = C",
-    "a margin of 0, D above C",
+    "a margin of 0",
     "a margin of 1",
 ];
 
-/// Marks those of `CHARGES` that a task is for one of this slack. The deadline of the carry-in job is what the
-/// remainder has above T - D.
-fn mark(met: &mut [bool; CHARGES.len()], s: i128, place: Ordering, task: &Row) {
-    let c = i128::from(task.c);
-    match place {
-        Ordering::Equal => {}
-        Ordering::Greater => met[8 + usize::from(s >= c) + usize::from(s > c)] = true,
-        Ordering::Less if s < c => met[0] = true,
-        Ordering::Less => {
-            let worst = WorstCase::new(s, task);
-            met[1] |= s == c;
-            met[2] |= worst.bodies > 0;
-            let carried = match worst.deadline {
-                ..0 => 3,
-                0 => 4,
-                x if x < c => 5,
-                x if x == c => 6,
-                _ => 7,
-            };
-            met[carried] = true;
+fn count(counts: &mut Counts, table: &Table) {
+    let answer = full(table);
+    match answer.refused {
+        Some(r) => counts.add(format!("refused {}", r.number)),
+        None if answer.admitted => counts.add("admitted"),
+        None => counts.add("not admitted"),
+    }
+    for x in [-1, 0, 1] {
+        if answer.margins.contains(&x) {
+            counts.add(format!("a margin of {x}"));
         }
     }
-}
-
-/// Charges of a task without slack are all 0 and not counted.
-fn count_charges(counts: &mut Counts, table: &Table, answer: &Full) {
-    let mut met = [false; CHARGES.len()];
-    for k in 1..=table.tasks().len() {
-        let (_, _, s) = measures(table, k);
-        if s > 0 {
-            (1..).zip(table.tasks()).for_each(|(i, task)| mark(&mut met, s, usize::cmp(&i, &k), task));
+    if let Some(least) = answer.margins.iter().min().filter(|&&x| x > 0) {
+        if *least <= i64::from(table.m) * i64::from(table.p) {
+            counts.add("admitted, least margin at most M times P");
         }
     }
-    (0..CHARGES.len()).filter(|&at| met[at]).for_each(|at| counts.add(CHARGES[at]));
-    if answer.admitted && met[2] {
-        counts.add("admitted, body jobs");
+    if answer.refused.is_none() && table.n == 32 {
+        counts.add("32 tasks, not refused");
     }
-}
-
-fn count(counts: &mut Counts, table: &Table, answer: &Full) {
-    if let Some(r) = answer.refused {
-        return counts.add(format!("refused {}", r.number));
-    }
-    counts.add(if answer.admitted { "admitted" } else { "not admitted" });
-    let zero = |slack: bool| {
-        table.tasks().iter().zip(&answer.margins).any(|(task, &margin)| margin == 0 && (task.d > task.c) == slack)
-    };
-    let least = answer.margins.iter().copied().min().unwrap();
-    for (what, is_so) in [
-        ("admitted, least margin at most M times P", least > 0 && least <= i64::from(table.m) * i64::from(table.p)),
-        ("32 tasks, not refused", table.n == 32),
-        ("a margin of -1", answer.margins.contains(&-1)),
-        ("a margin of 0, D = C", zero(false)),
-        ("a margin of 0, D above C", zero(true)),
-        ("a margin of 1", answer.margins.contains(&1)),
-    ] {
-        if is_so {
-            counts.add(what);
-        }
-    }
-    count_charges(counts, table, answer);
 }
 
 /// Writes the cases; the answer is false if some outcome is met too seldom to say that it was tried.
@@ -140,14 +79,13 @@ pub fn write(count_of: u64, seed: u64, mut pair: Pair) -> io::Result<bool> {
     let mut counts = Counts::default();
     while pair.written < count_of {
         let table = tables::any(&mut rng);
-        let answer = full(&table);
-        count(&mut counts, &table, &answer);
-        pair.write(b'A', &table_values(&table), &answer_values(&table, &answer))?;
+        count(&mut counts, &table);
+        pair.write(b'A', &table_values(&table), &answer_values(&table))?;
     }
     println!("{} tables:", pair.written);
     counts.print();
     pair.close()?;
-    let rare = counts.rarer(&[&OUTCOMES[..], &CHARGES].concat(), count_of / 100);
+    let rare = counts.rarer(&OUTCOMES, count_of / 100);
     if !rare.is_empty() {
         println!("met less than once in a hundred tables: {}", rare.join(", "));
     }

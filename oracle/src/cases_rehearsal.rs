@@ -22,7 +22,7 @@ fn answer_values(shown: &Result<Rehearsal, Refused>) -> Vec<Value> {
 }
 
 /// What has to be met, and how often at least in ten thousand tables.
-const WANTED: [(&str, u64); 40] = [
+const WANTED: [(&str, u64); 39] = [
     ("refused 1", 50),
     ("refused 2", 50),
     ("refused 3", 50),
@@ -61,7 +61,6 @@ const WANTED: [(&str, u64); 40] = [
     ("none late, a job finished at its deadline", 50),
     ("none late, not admitted", 50),
     ("none late, admitted", 50),
-    ("none late, admitted, and a job waited", 50),
     ("rows past n that are not zero", 50),
 ];
 
@@ -127,7 +126,6 @@ fn count_none_late(counts: &mut Counts, table: &Table, shown: &Rehearsal) {
         ("a later job would have fit", shown.met.held_back),
         ("a job finished at its deadline", shown.met.just_in_time),
         ("admitted", admitted),
-        ("admitted, and a job waited", admitted && (shown.met.no_core || shown.met.no_partitions)),
         ("not admitted", !admitted),
     ] {
         if is_so {

@@ -1,8 +1,7 @@
-//! The second program for the rules of document 01, the rehearsal of wish 1 and lemma 2 of wish 2: written from these
-//! words and the report's alone, apart from the proved one, and plainly.
+//! The second program for the rules of document 01 and the rehearsal of wish 1: written from these words alone, apart
+//! from the proved one, and plainly.
 
 pub mod admission;
-pub mod admitted;
 pub mod cases_admission;
 pub mod cases_machine;
 pub mod cases_rehearsal;
@@ -12,7 +11,6 @@ pub mod draw;
 pub mod files;
 pub mod folders;
 pub mod machine;
-pub mod plot;
 pub mod programs;
 pub mod records;
 pub mod rehearsal;

@@ -6,11 +6,10 @@
 //! oracle folders COUNT SEED FOLDER              write COUNT folders with the files of the programs and what
 //!                                               they must write
 //! oracle search TICKS SEED                      look for a counterexample to demand 3, and see how tight the test is
-//! oracle admitted FOLDER                        write what docs/ADMITTED.md has of drawn tables, and its picture
 //! oracle judge CASES EXPECTED GOT               hold the answers that were got to those expected
 //! ```
 
-use oracle::{admitted, cases_admission, cases_machine, cases_rehearsal, cases_texts, files, folders, search};
+use oracle::{cases_admission, cases_machine, cases_rehearsal, cases_texts, files, folders, search};
 use std::process::ExitCode;
 
 fn number(word: &str) -> u64 {
@@ -38,7 +37,6 @@ fn run(words: &[&str]) -> std::io::Result<bool> {
             println!("{passed} passed, {failed} failed");
             Ok(failed == 0)
         }
-        ["admitted", folder] => admitted::write(folder),
         ["judge", cases, expected, got] => {
             let (passed, failed) = files::judge(cases, expected, got)?;
             println!("{passed} passed, {failed} failed");
@@ -46,7 +44,7 @@ fn run(words: &[&str]) -> std::io::Result<bool> {
         }
         _ => Err(std::io::Error::other(
             "usage: oracle cases KIND COUNT SEED CASES EXPECTED | folders COUNT SEED FOLDER | search TICKS SEED | \
-             admitted FOLDER | judge CASES EXPECTED GOT",
+             judge CASES EXPECTED GOT",
         )),
     }
 }

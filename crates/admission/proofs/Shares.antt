@@ -9,13 +9,15 @@ use Rattle.maths.proofs.Tests.{both}
 use Rattle.table.specs.declared.Table.{Table}
 use Rattle.table.specs.declared.Refusal.{Refusal}
 use Rattle.table.specs.Refused.{refusal}
-use Rattle.table.specs.Tasks.{τ}
+use Rattle.table.specs.Tasks.{M, τ}
+use Rattle.table.specs.Good.{Good}
 use Rattle.admission.specs.declared.Measures.{Measures}
 use Rattle.admission.specs.declared.Share.{Share}
 use Rattle.admission.specs.Test.{interference, load}
 use Rattle.admission.specs.Shares.{is_task, no_share, share_in, share_answer, SharesAddUp}
-use Rattle.admission.specs.Code.Terms.{share_of}
-use Rattle.admission.proofs.Turns.{Measured}
+use Rattle.admission.specs.Code.Shares.{Bounded, share_of}
+use Rattle.admission.proofs.Bounds.{row-good}
+use Rattle.admission.proofs.Turns.{Measured, limited_needs}
 
 pub shares_add_up : SharesAddUp
 unfolding load
@@ -57,7 +59,12 @@ share_back t k i h g =
     ap (λ (a : ℕ). share_in t a (suc (i - 1))) e ∙ ap (λ (b : ℕ). share_in t k b) f
 
 -- what is worked out of row i, from the measures of task k + 1
-pub shared_is : (t : Table) {k : ℕ} {x : Measures} → Measured t k x → (i : ℕ)
-    → share_of x i (τ t (suc i)) ≡ share_in t (suc k) (suc i)
-unfolding interference
-shared_is t m i = rw m
+module _ {t : Table} (g : Good t) {k : ℕ} (l : k < t.n) {x : Measures} (m : Measured t k x) (i : ℕ) where
+  pub shared_needs : i < t.n → Bounded (M t) x.b.0 x.s (τ t (suc i))
+  shared_needs h =
+      let n = limited_needs g l m in
+      (n.0, n.1, n.2, row-good g i h)
+
+  pub shared_is : share_of (M t) x.b.0 x.s (τ t (suc i)) ≡ share_in t (suc k) (suc i)
+  unfolding interference
+  shared_is = rw (m.b, m.s)

@@ -1,25 +1,24 @@
 -- What the loops of the answers know: over the rows, that none so far is refused; over the tasks, what was measured of
 -- task k + 1, and its load up to row i.
-use Prim.Native.Nat.{ℕ, suc, ◌+◌, ◌-◌, ◌*◌, ◌<◌, ◌≤◌}
+use Prim.Native.Nat.{ℕ, suc, ◌+◌, ◌-◌, ◌*◌, ◌<◌, ◌≤◌, max}
 use mathlib.Core.Path.{◌≡◌, sym, ◌∙◌, ap}
-use native.Mathlib.Numerals.{add-one}
 use native.Mathlib.Omega.{arith}
 use borrow.Author.Tests.{eq-eqb, ne_eqb}
 use lib.ListN.{length, take, drop, get_or}
 use Rattle.table.specs.declared.Table.{Table}
 use Rattle.table.specs.declared.Refusal.{Refusal}
-use Rattle.table.specs.Limits.{most_tasks, most_cores, most_partitions}
+use Rattle.table.specs.Limits.{most_tasks, most_cores, most_partitions, longest_period}
 use Rattle.table.specs.Refused.{no_refusal, sizes_refusal, row_refusal, rows_from, refusal}
-use Rattle.table.specs.Tasks.{no_task, M, P, τ}
+use Rattle.table.specs.Tasks.{no_task, M, P, τ, D, C, A}
 use Rattle.table.specs.Good.{Good, GoodRow}
 use Rattle.table.proofs.Good.{good-sizes, good_of}
 use Rattle.table.proofs.Laws as checks
+use Rattle.lives.specs.Report.{equation3, weight_of, limit_of}
 use Rattle.admission.specs.declared.Measures.{Measures}
-use Rattle.admission.specs.Test.{S, Amax, B, interference, share, limit}
-use Rattle.admission.specs.Code.Terms.{measures_in, measures_of, Bounded, term_of}
+use Rattle.admission.specs.Test.{row, S, Amax, B, interference, weight, limit}
 use Rattle.admission.proofs.Answers.{Refused, Unrefused}
-use Rattle.admission.proofs.Bounds.{Amax-suc, Amax-le, row-good, share-small, B-le, S-le, most_term}
-use Rattle.admission.proofs.Laws.{load_to, load-none, load-more, share-own}
+use Rattle.admission.proofs.Bounds.{Amax-suc, Amax-le, row-good, term_le, B-le, S-le, most_term}
+use Rattle.admission.proofs.Laws.{load_to, load-none, load-more}
 
 -- the sizes and rows 1 to i earn no refusal
 pub record Checked (t : Table) (i : ℕ) : Type 0 where
@@ -54,9 +53,10 @@ module _ {t : Table} where
         let is : refusal t ≡ no_refusal = c.rest ∙ rw e (checks.rows_end (P t) _ t.n t.rows there) in
         record { is = is; good = good_of t c.whole (ap (λ (r : Refusal). r.number) is) }
 
--- what was measured of task k + 1
-abbrev pub Measured : Table → ℕ → Measures → Type 0
-Measured t k x = x ≡ measures_in t.platform (Amax t (suc k)) (B t (suc k)) k (τ t (suc k))
+pub record Measured (t : Table) (k : ℕ) (x : Measures) : Type 0 where
+  pub most : x.most.0 ≡ Amax t (suc k)
+  pub b : x.b.0 ≡ B t (suc k)
+  pub s : x.s ≡ S t (suc k)
 
 pub record Loading (t : Table) (k : ℕ) (x : Measures) (load i : ℕ) : Type 0 where
   pub good : Good t
@@ -66,57 +66,45 @@ pub record Loading (t : Table) (k : ℕ) (x : Measures) (load i : ℕ) : Type 0 
   pub small : load ≤ i * most_term
 
 module _ {t : Table} (g : Good t) {k : ℕ} (l : k < t.n) where
-  pub measured_needs : {a : ℕ} → a ≡ Amax t k
-      → (M t ≤ most_cores) × (a ≤ P t) × (P t ≤ most_partitions) × GoodRow (P t) (τ t (suc k))
-  measured_needs e = (g.sizes.cores, rw e (Amax-le g k (omega arith)), g.sizes.partitions, g.row k l)
+  pub measured_needs : {a : ℕ} → a ≡ Amax t k → (a ≤ P t) × (P t ≤ most_partitions) × GoodRow (P t) (τ t (suc k))
+  measured_needs e = (rw e (Amax-le g k (omega arith)), g.sizes.partitions, g.row k l)
 
-  pub measured : {a : ℕ} {x : Measures} → a ≡ Amax t k → x ≡ measures_of t.platform a k (τ t (suc k)) → Measured t k x
-  measured e f = f ∙ rw (e, Amax-suc g k)
+  module _ {x : Measures} where
+    pub measured : {a : ℕ} → a ≡ Amax t k → x.most.0 ≡ max a (A (τ t (suc k)))
+        → x.b.0 ≡ P t - max a (A (τ t (suc k))) + 1 → x.s ≡ D (τ t (suc k)) - C (τ t (suc k)) → Measured t k x
+    measured e most b s = record { most = omega (arith, Amax-suc g k); b = omega (arith, Amax-suc g k); s = s }
 
-  module _ {x : Measures} (m : Measured t k x) where
-    pub most-is : x.most.0 ≡ Amax t (k + 1)
-    most-is = rw (m, add-one k)
+    module _ (m : Measured t k x) where
+      pub limited_needs : (M t ≤ most_cores) × (x.b.0 ≤ most_partitions + 1) × (x.s ≤ longest_period)
+      limited_needs = (g.sizes.cores, omega (arith, m.b, B-le g k l), omega (arith, m.s, S-le g k l))
 
-    pub limit_is : x.limit ≡ limit t (suc k)
-    unfolding limit
-    limit_is = rw m
+      pub limit_is : limit_of (M t) x.b.0 x.s ≡ limit t (suc k)
+      unfolding limit
+      limit_is = rw (m.b, m.s)
 
-    pub loading_none : Loading t k x 0 0
-    loading_none = record { good = g; task = l; measures = m; is = sym (load-none t (suc k)); small = omega arith }
+      pub loading_none : Loading t k x 0 0
+      loading_none = record { good = g; task = l; measures = m; is = sym (load-none t (suc k)); small = omega arith }
 
-    -- of task i + 1
-    module _ (i : ℕ) where
-      pub term_needs : i < t.n → Bounded x (τ t (suc i))
-      term_needs h = rw m (g.sizes.cores, B-le g k l, S-le g k l, row-good g i h)
+module _ {t : Table} {k : ℕ} {x : Measures} {load i : ℕ} (c : Loading t k x load i) (h : i < t.n) where
+  pub term_needs : (M t ≤ most_cores) × (x.b.0 ≤ most_partitions + 1) × (x.s ≤ longest_period)
+      × GoodRow most_partitions (τ t (suc i))
+  term_needs =
+      let n = limited_needs c.good c.task c.measures in
+      (n.0, n.1, n.2, row-good c.good i h)
 
-      pub term_is : term_of x i (τ t (suc i)) ≡ share t (suc k) (suc i)
-      unfolding interference
-      term_is = rw m
-
-module _ {t : Table} {k : ℕ} {x : Measures} {load i : ℕ} (c : Loading t k x load i) where
-  -- task k + 1 adds nothing to its own load
-  pub loading_own : i ≡ k → Loading t k x load (k + 1)
-  loading_own e =
+  pub loading_more : {term : ℕ}
+      → term ≡ weight_of (M t) x.b.0 (A (τ t (suc i))) * equation3 x.s (row (τ t (suc i)))
+      → Loading t k x (load + term) (i + 1)
+  unfolding interference
+  loading_more {term} e =
+      let m = c.measures in
+      let n = term_needs in
+      let adds : term ≡ weight t (suc k) (suc i) * interference t (suc k) (suc i) = e ∙ rw (m.b, m.s) in
+      let most : term ≤ most_term = rw e (term_le n.3 n.0 n.1 n.2) in
       record {
         good = c.good;
         task = c.task;
-        measures = c.measures;
-        is = omega (arith, load-more t (suc k) k, share-own t (suc k), rw e at c.is);
+        measures = m;
+        is = omega (arith, load-more t (suc k) i, c.is);
         small = omega (arith, c.small);
       }
-
-  module _ (h : i < t.n) where
-    pub next_needs : Bounded x (τ t (suc i))
-    next_needs = term_needs c.good c.task c.measures i h
-
-    pub loading_more : {term : ℕ} → term ≡ term_of x i (τ t (suc i)) → Loading t k x (load + term) (i + 1)
-    loading_more {term} e =
-        let adds : term ≡ share t (suc k) (suc i) = e ∙ term_is c.good c.task c.measures i in
-        let most = share-small c.good k c.task i h in
-        record {
-          good = c.good;
-          task = c.task;
-          measures = c.measures;
-          is = omega (arith, load-more t (suc k) i, c.is);
-          small = omega (arith, c.small);
-        }

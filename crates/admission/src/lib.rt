@@ -1,19 +1,17 @@
 // The admission answers: the second test of the report, task by task, with exact margins.
-ghost use Rattle.std.specs.Prelude.{◌≡◌, ℕ, suc, ◌+◌, ◌-◌, ◌*◌, ◌^◌, ◌<◌, ◌≤◌, max, min, cond, not, ◌&&◌, ltb, leb};
+ghost use Rattle.std.specs.Prelude.{◌≡◌, ℕ, suc, ◌+◌, ◌-◌, ◌*◌, ◌^◌, ◌<◌, ◌≤◌, max, cond, not, ◌&&◌, leb};
 ghost use Rattle.maths.specs.Tasks.{or_else};
 ghost use Rattle.table.specs.Good.{Good, GoodRow};
 ghost use Rattle.table.specs.Limits.{most_tasks, most_cores, most_partitions, longest_period};
-ghost use Rattle.table.specs.Tasks.{D, T, C};
-ghost use Rattle.lives.specs.declared.Charge.TheVariants.{Window};
-ghost use Rattle.lives.specs.Report.{amount, charge_of, weight_of, limit_of};
+ghost use Rattle.table.specs.Tasks.{D, C};
+ghost use Rattle.lives.specs.Report.{equation3, weight_of, limit_of};
 ghost use Rattle.admission.specs.Test.{row, Amax, less, above0};
 ghost use Rattle.admission.specs.Answers.{full_refused, quick_refused, full_answer, quick_answer};
 ghost use Rattle.admission.specs.Shares.{no_share, share_in, share_answer};
-ghost use Rattle.admission.specs.Code.Terms.{measures_of, Bounded, interference_by, term_of, share_of};
+ghost use Rattle.admission.specs.Code.Shares.{Bounded, share_of};
 ghost use Rattle.admission.specs.Code.Judged.{full_judged, quick_judged};
 
-use lives::Charge;
-use table::{Cores, Partitions, Platform, Refusal, Table, Task};
+use table::{Cores, Partitions, Refusal, Table, Task};
 
 #[repr(C)]
 #[derive(Drop)]
@@ -32,15 +30,12 @@ pub struct Share {
     pub share: u64,
 }
 
-// Of task k + 1 of a table with so many cores: Amax and B, counts of partitions; its slack and its limit.
+// Of one task: Amax and B, counts of partitions, and its slack.
 #[derive(Drop)]
 struct Measures {
-    k: usize,
-    cores: Cores,
     most: Partitions,
     b: Partitions,
     s: u32,
-    limit: u64,
 }
 
 #[repr(C)]
@@ -51,68 +46,14 @@ pub struct QuickAnswer {
     pub first: usize,
 }
 
-fn lesser(a: u32, b: u32) -> u32
-    ensures { result ≡ min a b }
+// Equation 3, of a task in a window of s ticks.
+fn interferes(s: u32, task: Task) -> u64
+    requires { (s ≤ longest_period)
+        × GoodRow most_partitions task }
+    ensures { result ≡ equation3 s (row task) }
 {
-    if a < b { a } else { b }
-}
-
-// ω of lemma 2, of a task's carry-in job where a window has `rest` ticks beside the jobs that are released in it.
-fn carry_in(rest: u32, task: Task) -> u32
-    requires { GoodRow most_partitions task }
-    ensures { result ≡ min (C task) (rest - (T task - D task)) }
-{
-    let gap = task.t - task.d;
-    if rest < gap {
-        return 0;
-    }
-    lesser(task.c, rest - gap)
-}
-
-// Equation 11, or all of a window that is shorter than a job.
-fn in_window(s: u32, task: Task) -> u32
-    requires { (s ≤ longest_period) × GoodRow most_partitions task }
-    ensures { result ≡ amount Window s (row task) }
-{
-    if s < task.c {
-        return s;
-    }
-    let rest = s - task.c;
-    let bodies = rest / task.t * task.c;
-    bodies + task.c + carry_in(rest % task.t, task)
-}
-
-// How much a task so charged interferes in a window of s ticks.
-fn amount(charge: Charge, s: u32, task: Task) -> u32
-    requires { (s ≤ longest_period) × GoodRow most_partitions task }
-    ensures { result ≡ amount charge s (row task) }
-{
-    match charge {
-        Charge::Window => in_window(s, task),
-        Charge::OneJob => lesser(task.c, s),
-    }
-}
-
-// How task i + 1 is charged on another task, k + 1.
-fn charge_of(k: usize, i: usize) -> Charge
-    ensures { result ≡ charge_of (suc k) (suc i) }
-{
-    if i < k {
-        Charge::Window
-    } else {
-        Charge::OneJob
-    }
-}
-
-// Equation 10, of task i + 1 on the one that was measured.
-fn interferes(x: Measures, i: usize, task: Task) -> u32
-    requires { (x.s ≤ longest_period) × GoodRow most_partitions task }
-    ensures { result ≡ interference_by x i task }
-{
-    if i == x.k {
-        return 0;
-    }
-    amount(charge_of(x.k, i), x.s, task)
+    let jobs = s / task.t + 2;
+    (jobs as u64) * (task.c as u64)
 }
 
 // The weight of a task in the load of one whose B is b.
@@ -124,27 +65,26 @@ fn weighs(m: Cores, b: Partitions, task: Task) -> u32
     if share < b.0 { b.0 } else { share }
 }
 
-// What task i + 1 adds to the load of the one that was measured.
-fn term(x: Measures, i: usize, task: Task) -> u64
-    requires { Bounded x task }
-    ensures { result ≡ term_of x i task }
+// What a task adds to the load of one whose B is b and whose slack is s.
+fn term(m: Cores, b: Partitions, s: u32, task: Task) -> u64
+    requires { (m.0 ≤ most_cores) × (b.0 ≤ most_partitions + 1) × (s ≤ longest_period)
+        × GoodRow most_partitions task }
+    ensures { result ≡ weight_of m.0 b.0 task.a.0 * equation3 s (row task) }
 {
-    let w = weighs(x.cores, x.b, task);
-    let interference = interferes(x, i, task);
-    (w as u64) * (interference as u64)
+    let w = weighs(m, b, task);
+    (w as u64) * interferes(s, task)
 }
 
-// What task i + 1 takes of the limit of the one that was measured.
-fn shared(x: Measures, i: usize, task: Task) -> Share
-    requires { Bounded x task }
-    ensures { result ≡ share_of x i task }
+// What a task takes of the limit of one whose B is b and whose slack is s.
+fn shared(m: Cores, b: Partitions, s: u32, task: Task) -> Share
+    requires { Bounded m.0 b.0 s task }
+    ensures { result ≡ share_of m.0 b.0 s task }
 {
-    let w = weighs(x.cores, x.b, task);
-    let interference = interferes(x, i, task);
+    let w = weighs(m, b, task);
     Share {
-        interference: interference as u64,
+        interference: interferes(s, task),
         weight: w as u64,
-        share: term(x, i, task),
+        share: term(m, b, s, task),
     }
 }
 
@@ -171,23 +111,17 @@ fn largest(row: Task, most: Partitions) -> Partitions
     if most.0 < row.a.0 { row.a } else { most }
 }
 
-// Of task k + 1 on a platform, from its row and from the Amax of task k.
-fn measured(platform: Platform, most: Partitions, k: usize, row: Task) -> Measures
-    requires { (platform.cores.0 ≤ most_cores) × (most.0 ≤ platform.partitions.0)
-        × (platform.partitions.0 ≤ most_partitions) × GoodRow platform.partitions.0 row }
-    ensures { result ≡ measures_of platform most.0 k row }
+// Amax, B and S of task k + 1 on p partitions, from its row and from the Amax of task k.
+fn measured(p: Partitions, most: Partitions, row: Task) -> Measures
+    requires { (most.0 ≤ p.0) × (p.0 ≤ most_partitions) × GoodRow p.0 row }
+    ensures { (result.most.0 ≡ max most.0 row.a.0) × (result.b.0 ≡ p.0 - max most.0 row.a.0 + 1)
+        × (result.s ≡ D row - C row) }
 {
-    let cores = platform.cores;
     let most = largest(row, most);
-    let b = Partitions(platform.partitions.0 - most.0 + 1);
-    let s = row.d - row.c;
     Measures {
-        k: k,
-        cores: cores,
         most: most,
-        b: b,
-        s: s,
-        limit: limited(cores, b, s),
+        b: Partitions(p.0 - most.0 + 1),
+        s: row.d - row.c,
     }
 }
 
@@ -256,90 +190,87 @@ fn quick_judged(failing: usize) -> QuickAnswer
 }
 
 // The verdict, the first task that does not pass, and the margin of each task; or the refusal. A function that is
-// handed a table copies it, so that the loops stand here and hand on one row. The tasks above k and those below it have
-// a loop each, so that neither asks at each turn which it is.
+// handed a table copies it, so that the loops stand here and hand on one row.
 pub fn full_answer(t: Table) -> FullAnswer
     ensures { result ≡ full_answer t }
 {
     let n = t.n;
+    let m = t.platform.cores;
+    let p = t.platform.partitions;
     let sizes = t.sizes_refused();
     if sizes != 0 {
         return full_refused(sizes, 0);
     }
-    for row in 0..n {
-        let number = t.rows[row].refused(t.platform.partitions);
+    let mut row: usize = 0;
+    while row < n {
+        let number = t.rows[row].refused(p);
         if number != 0 {
             return full_refused(number, row + 1);
         }
+        row += 1;
     }
     let mut margins = [0i64; Table::MOST];
     let mut first: usize = 0;
     let mut most = Partitions(0);
-    for k in 0..n {
-        let x = measured(t.platform, most, k, t.rows[k]);
+    let mut k: usize = 0;
+    while k < n {
+        let x = measured(p, most, t.rows[k]);
         most = x.most;
         let mut load: u64 = 0;
-        for i in 0..k {
-            load += term(x, i, t.rows[i]);
+        let mut i: usize = 0;
+        while i < n {
+            load += term(m, x.b, x.s, t.rows[i]);
+            i += 1;
         }
-        for i in k + 1..n {
-            load += term(x, i, t.rows[i]);
-        }
-        let margin = difference(x.limit, load);
+        let l = limited(m, x.b, x.s);
+        let margin = difference(l, load);
         margins[k] = margin;
         first = first_with(first, k, margin);
+        k += 1;
     }
     full_judged(first, margins)
 }
 
-// The first task that does not pass, where tasks 1 to k of n do and, if k is not all of them, the next does not.
-fn first_past(k: usize, n: usize) -> usize
-    requires { n ≤ most_tasks }
-    ensures { result ≡ cond (ltb k n) (suc k) 0 }
-{
-    if k < n { k + 1 } else { 0 }
-}
-
-// The verdict and the first task that does not pass; or the refusal. All loops are left at once where a load reaches
-// its limit, which without slack it does at 0.
+// The verdict and the first task that does not pass; or the refusal. Both loops are left at once where a load reaches
+// its limit.
 pub fn quick_answer(t: Table) -> QuickAnswer
     ensures { result ≡ quick_answer t }
 {
     let n = t.n;
+    let m = t.platform.cores;
+    let p = t.platform.partitions;
     let sizes = t.sizes_refused();
     if sizes != 0 {
         return quick_refused(sizes, 0);
     }
-    for row in 0..n {
-        let number = t.rows[row].refused(t.platform.partitions);
+    let mut row: usize = 0;
+    while row < n {
+        let number = t.rows[row].refused(p);
         if number != 0 {
             return quick_refused(number, row + 1);
         }
+        row += 1;
     }
+    let mut answer = quick_judged(0);
     let mut most = Partitions(0);
     let mut k: usize = 0;
     'tasks: while k < n {
-        let x = measured(t.platform, most, k, t.rows[k]);
+        let x = measured(p, most, t.rows[k]);
         most = x.most;
+        let l = limited(m, x.b, x.s);
         let mut load: u64 = 0;
-        if x.limit == 0 {
-            break 'tasks;
-        }
-        for i in 0..k {
-            load += term(x, i, t.rows[i]);
-            if x.limit <= load {
+        let mut i: usize = 0;
+        while i < n {
+            load += term(m, x.b, x.s, t.rows[i]);
+            if l <= load {
+                answer = quick_judged(k + 1);
                 break 'tasks;
             }
-        }
-        for i in k + 1..n {
-            load += term(x, i, t.rows[i]);
-            if x.limit <= load {
-                break 'tasks;
-            }
+            i += 1;
         }
         k += 1;
     }
-    quick_judged(first_past(k, n))
+    answer
 }
 
 // Amax of task k.
@@ -381,8 +312,8 @@ fn share_at(t: Table, k: usize, i: usize) -> Share
     ensures { result ≡ share_in t (suc k) (suc i) }
 {
     let most = amax(t, k);
-    let x = measured(t.platform, most, k, t.rows[k]);
-    shared(x, i, t.rows[i])
+    let x = measured(t.platform.partitions, most, t.rows[k]);
+    shared(t.platform.cores, x.b, x.s, t.rows[i])
 }
 
 // What task i takes of the limit of task k; all 0 where the table is refused or one of them is not a task.

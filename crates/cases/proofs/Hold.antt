@@ -1,4 +1,4 @@
--- Every case of document 01 and of wishes 1 and 2 holds of the definitions, by computation. `refl` is given the answers: where
+-- Every case of document 01 and of wish 1 holds of the definitions, by computation. `refl` is given the answers: where
 -- it has to find them, it computes the long rehearsals more than once.
 use mathlib.Core.Path.{◌≡◌, refl}
 use mathlib.Core.List.{List, map, flatten}
@@ -9,7 +9,6 @@ use Rattle.forms.specs.Digits.{digits, digits_in}
 use Rattle.forms.specs.Forms.{line, lines}
 use Rattle.forms.specs.Reader.{run, grow, step, rows_at, read}
 use Rattle.table.specs.Refused.{table_rules, row_rules, rows_from, refusal}
-use Rattle.lives.specs.Report.{amount, interference_in}
 use Rattle.admission.specs.Test.{Amax, interference, load, limit, less}
 use Rattle.admission.specs.Answers.{full_answer, quick_answer}
 use Rattle.sets.specs.Sets.{size, members, set_of, set_where}
@@ -31,13 +30,12 @@ use Rattle.texts.specs.Verdict.{verdict}
 use Rattle.runs.specs.Ticks.{run_rows, ticks_text}
 use Rattle.shares.specs.Explain.{explain_text}
 use Rattle.cases.specs.Rows.{Case, answered, ticked_rows, after}
-use Rattle.cases.specs.Rows.{paper_cases, charge_cases, bench_cases, cases}
+use Rattle.cases.specs.Rows.{paper_cases, bench_cases, cases}
 
 pub cases_hold : map (λ (c : Case). answered c.asked) cases ≡ map (λ (c : Case). c.expected) cases
 unfolding padded sum every lowest tabulate digits digits_in line lines run grow step rows_at read table_rules row_rules
-    rows_from refusal Amax amount interference_in interference load limit less full_answer quick_answer size members set_of set_where union_of
+    rows_from refusal Amax interference load limit less full_answer quick_answer size members set_of set_where union_of
     all_apart choice running busy fresh good_job good_state for_tasks start_waiting tick_rules first_given tick_refusal tick
     listing margin_lines margins_text margin_row taken admit_text verdict run_rows ticks_text flatten
-    explain_text gcd_in gcd multiple_to from rehearsal rehearsed ticked_rows after paper_cases charge_cases bench_cases
-    cases
+    explain_text gcd_in gcd multiple_to from rehearsal rehearsed ticked_rows after paper_cases bench_cases cases
 cases_hold = refl {a = map (λ (c : Case). c.expected) cases}

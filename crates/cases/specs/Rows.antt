@@ -1,7 +1,7 @@
 -- Cases P1 to P10 of document 01 and its cases at the limits: what is given, as the lines of the texts, what is asked,
--- and the answer that document 01 gives, or wish 2 where it changed that; of "explain", which neither has, the answer by
--- hand from their formulas; of a rehearsal (wish 1) what a plain simulation gives. `cases` is proved to give `expected`
--- in proofs/Hold.antt, from the bytes of the texts on.
+-- and the answer that document 01 gives; of "explain", which document 01 does not have, the answer by hand from its
+-- formulas; of a rehearsal (wish 1) what a plain simulation gives. `cases` is proved to give `expected` in
+-- proofs/Hold.antt, from the bytes of the texts on.
 use Rattle.std.specs.Prelude.{ℕ, ◌*◌, ◌/◌, true, cond, List, [], ◌∷◌, ◌++◌, map, ℤ, pos, negsuc, length, replicate, take}
 use Prim.Native.String.{String}
 use Rattle.maths.specs.Tasks.{entry}
@@ -153,10 +153,6 @@ two row1 row2 = files "1,1" (row1 ∷ row2 ∷ [])
 abbrev judged1 : ℕ → ℕ → ℤ → List (List ℤ)
 judged1 verdict first margin = (pos verdict ∷ pos first ∷ margin ∷ []) ∷ []
 
--- of two tasks, with margins that are not negative
-abbrev judged2 : (verdict first margin1 margin2 : ℕ) → List (List ℤ)
-judged2 verdict first margin1 margin2 = (pos verdict ∷ pos first ∷ pos margin1 ∷ pos margin2 ∷ []) ∷ []
-
 abbrev number1 : ℕ → List (List ℤ)
 number1 n = (pos n ∷ []) ∷ []
 
@@ -192,13 +188,6 @@ p1 = p1_on "2,4"
 abbrev p2 : Files
 p2 = one "6,6,2,1"
 
-abbrev p5 : Files
-p5 = one "2,2,2,1"
-
--- three tasks of one row on one core: each is charged one job by each other
-abbrev crowded : Files
-crowded = files "1,1" (replicate 3 "2,3,1,1")
-
 abbrev p8_on : String → Files
 p8_on platform = files platform ("6,6,2,1" ∷ "8,8,3,2" ∷ "9,9,2,2" ∷ "12,12,2,1" ∷ [])
 
@@ -213,31 +202,30 @@ p10 = two "3,3,3,1" "1,1,1,1"
 
 unfoldable pub paper_cases : List Case
 paper_cases =
-    writes 1 (admit p1) ("task,margin,pass" ∷ "1,276,1" ∷ "2,314,1" ∷ "3,402,1" ∷ [])
+    writes 1 (admit p1) ("task,margin,pass" ∷ "1,232,1" ∷ "2,268,1" ∷ "3,370,1" ∷ [])
     ∷ gives 1 (board p1) (number1 0)
     ∷ writes 1
     (explain p1)
     ("task,other,interference,weight,share"
-    ∷ "1,1,0,4,0"
-    ∷ "1,2,3,4,12"
-    ∷ "1,3,4,4,16"
-    ∷ "2,1,4,3,12"
-    ∷ "2,2,0,4,0"
-    ∷ "2,3,4,4,16"
+    ∷ "1,1,4,4,16"
+    ∷ "1,2,6,4,24"
+    ∷ "1,3,8,4,32"
+    ∷ "2,1,6,3,18"
+    ∷ "2,2,6,4,24"
+    ∷ "2,3,8,4,32"
     ∷ "3,1,6,3,18"
     ∷ "3,2,9,4,36"
-    ∷ "3,3,0,4,0"
+    ∷ "3,3,8,4,32"
     ∷ [])
-    ∷ gives 2 (answer p2) (judged1 1 0 (pos 4))
-    ∷ gives 2 (board p2) (number1 0)
-    ∷ writes 2 (admit p2) ("task,margin,pass" ∷ "1,4,1" ∷ [])
-    ∷ gives 3 (answer (one "7,7,2,1")) (judged1 1 0 (pos 5))
-    ∷ gives 4 (answer (one "5,5,2,1")) (judged1 1 0 (pos 3))
-    ∷ gives 5 (answer p5) (judged1 0 1 (pos 0))
-    ∷ gives 5 (board p5) (number1 101)
-    ∷ writes 5 (admit p5) ("task,margin,pass" ∷ "1,0,0" ∷ [])
+    ∷ gives 2 (answer p2) (judged1 0 1 (pos 0))
+    ∷ gives 2 (board p2) (number1 101)
+    ∷ writes 2 (admit p2) ("task,margin,pass" ∷ "1,0,0" ∷ [])
+    ∷ gives 3 (answer (one "7,7,2,1")) (judged1 1 0 (pos 1))
+    ∷ gives 4 (answer (one "5,5,2,1")) (judged1 0 1 (negsuc 0))
+    ∷ writes 4 (admit (one "5,5,2,1")) ("task,margin,pass" ∷ "1,-1,0" ∷ [])
+    ∷ gives 5 (answer (one "2,2,2,1")) (judged1 0 1 (negsuc 3))
     ∷ gives 6 (blocks (one "6,6,2,0") 1) (number1 2)
-    ∷ gives 6 (answer (one "6,6,2,0")) (judged1 1 0 (pos 8))
+    ∷ gives 6 (answer (one "6,6,2,0")) (judged1 0 1 (pos 0))
     ∷ gives 7 (load2 2 4 (1 ∷ 3 ∷ 1 ∷ []) (4 ∷ 4 ∷ 6 ∷ [])) ((pos 64 ∷ pos 8 ∷ []) ∷ [])
     ∷ writes 8
     (ticks p8 ("released,finished" ∷ "15,0" ∷ "0,0" ∷ "0,1" ∷ "0,2" ∷ "0,4" ∷ "1,8" ∷ "0,8" ∷ "1,0" ∷ []))
@@ -270,42 +258,20 @@ paper_cases =
     ∷ writes 0 (explain (files "1,1" [])) ("refused,row" ∷ "1,0" ∷ [])
     ∷ writes 0
     (explain (files "4,4" ("9,10,2,2" ∷ "20,20,3,0" ∷ [])))
-    ("task,other,interference,weight,share" ∷ "1,1,0,8,0" ∷ "1,2,3,3,9" ∷ "2,1,6,8,48" ∷ "2,2,0,3,0" ∷ [])
-    ∷ []
-
--- Wish 2, each row with the wrong readings of lemma 2 that it tells apart: a test that is too strong keeps every promise,
--- so that only its reader and such a row can find it.
-unfoldable pub charge_cases : List Case
-charge_cases =
-    -- a lower task charged all of C; the window's first line left out; ω left out, not clipped at C, or without T - D;
-    -- k charged for itself; priorities turned
-    gives 0
-    (answer (files "2,3" ("6,10,2,0" ∷ "2,11,1,3" ∷ "12,12,3,0" ∷ [])))
-    ((pos 0 ∷ pos 2 ∷ pos 14 ∷ pos 0 ∷ pos 8 ∷ []) ∷ [])
-    -- ω clipped at C: 1 + 1 + 1 of 8; not clipped, 1 + 1 + 2
-    ∷ gives 0 (answer (two "3,4,1,1" "9,9,1,1")) (judged2 1 0 1 5)
-    -- ω clipped at 0: 2 + 2 + 0 of 8; with 1 - 2 below 0, 2 + 2 - 1; with (6 - 2) mod 5 for 6 mod 5 - 2, 2 + 2 + 2
-    ∷ gives 0 (answer (two "3,5,2,1" "10,10,2,1")) (judged2 0 1 0 4)
-    -- ω between: 2 + 2 + 1 of 8; with s mod T, or with T - D one larger, 2 + 2 + 0; one smaller, 2 + 2 + 2; with s / T for
-    -- (s - C) / T, 4 + 2 + 1
-    ∷ gives 0 (answer (two "3,4,2,1" "10,10,2,1")) (judged2 0 1 0 3)
-    -- a margin below 0
-    ∷ writes 0 (admit crowded) ("task,margin,pass" ∷ "1,-1,0" ∷ "2,-1,0" ∷ "3,-1,0" ∷ [])
-    ∷ gives 0 (board crowded) (number1 101)
+    ("task,other,interference,weight,share" ∷ "1,1,4,8,32" ∷ "1,2,6,3,18" ∷ "2,1,6,8,48" ∷ "2,2,6,3,18" ∷ [])
     ∷ []
 
 -- Wish 1, each row with the wrong readings that it tells apart. Those of many ticks stand last, so that a wrong row is
 -- refused before they are computed. The ticks of L = 1,000,000 are run, not computed.
 unfoldable pub bench_cases : List Case
 bench_cases =
-    -- never late, and not admitted: the converse of `NeverLate` is false
-    gives 0 (beside (two "3,5,2,1" "10,10,3,1")) (beside2 0 0)
-    ∷ gives 2 (beside p2) (beside2 1 0)
+    -- never late, and P2 is not admitted: the converse of `NeverLate` is false
+    gives 2 (beside p2) (beside2 0 0)
     ∷ gives 2 (outcome p2) (none_late (1 ∷ []))
     ∷ gives 3 (beside (one "7,7,2,1")) (beside2 1 0)
     ∷ gives 9 (beside p9) (beside2 0 2)
     -- a job that finishes at its deadline is in time: late is judged after the finishes
-    ∷ gives 5 (outcome p5) (none_late (1 ∷ []))
+    ∷ gives 5 (outcome (one "2,2,2,1")) (none_late (1 ∷ []))
     -- late by D, not by T; started is not finished, which would be 1, 0
     ∷ gives 9 (outcome p9) (late_at 3 2 (1 ∷ 1 ∷ []))
     -- late in the tick of its next release, which `tick` refuses under 13, naming nobody late
@@ -343,4 +309,4 @@ bench_cases =
     ∷ []
 
 unfoldable pub cases : List Case
-cases = paper_cases ++ (charge_cases ++ bench_cases)
+cases = paper_cases ++ bench_cases

@@ -1,8 +1,7 @@
 pub mod Steps
-pub mod Charges
 pub mod Window
 pub mod Weights
 pub mod OnTime
 pub mod InTime
 pub mod Ages
-pub mod Styles
+pub mod Base

@@ -6,7 +6,7 @@ use Prim.Native.Nat.{ℕ, suc, ◌+◌, ◌-◌, ◌≤◌, ◌<◌, min}
 use native.Mathlib.Omega.{arith}
 use Rattle.lives.specs.Report.{Row}
 use Rattle.lives.specs.Life.{Sound, Life, idle, waiting, running, age, runs, up, rise, finish, release, start}
-use Rattle.lives.specs.Life.{Begun, Allowed, Next, WithinC}
+use Rattle.lives.specs.Life.{Allowed, Next, WithinC}
 
 -- The nine outcomes.
 pub data Step (row : Row) (top : ℕ) : Life → Life → Type 0 where
@@ -69,33 +69,6 @@ facts v (still-running l) = same (omega arith) (omega arith)
 facts v finished = same (omega arith) (omega arith)
 facts v (finished-released e) = new (omega arith) (omega arith) (omega arith)
 facts v (finished-released-started e) = new (omega arith) (omega arith) (omega arith)
-
--- Who has just begun was started by the tick: a job that runs on has run.
-pub begun-started : (top : ℕ) (x : Life) (f r s : Bool) → Begun (start s (release r (finish f (rise top x)))) → s ≡ true
-begun-started top x f r true b = refl
-begun-started top x f true false b = absurd (omega arith)
-begun-started top x true false false b = absurd (omega arith)
-begun-started top (idle a) false false false b = absurd (omega arith)
-begun-started top (waiting a) false false false b = absurd (omega arith)
-begun-started top (running a n) false false false b = absurd (omega arith)
-
--- The ticks that a job which was started can still run after this state.
-abbrev pub left : Row → Life → ℕ
-left row (idle a) = 0
-left row (waiting a) = 0
-left row (running a r) = row.C - suc r
-
--- Without a start no running is added.
-pub unstarted : {row : Row} {top : ℕ} {x y : Life} → Step row top x y → (Begun y → ⊥) → runs y + left row y ≤ left row x
-unstarted still-idle h = omega arith
-unstarted (released e) h = omega arith
-unstarted (released-started e) h = absurd (h (refl, refl))
-unstarted still-waiting h = omega arith
-unstarted started h = absurd (h (refl, refl))
-unstarted (still-running l) h = omega arith
-unstarted finished h = omega arith
-unstarted (finished-released e) h = omega arith
-unstarted (finished-released-started e) h = absurd (h (refl, refl))
 
 within : {row : Row} {top : ℕ} {x y : Life} → Sound row → Step row top x y → WithinC row y
 within v still-idle = tt

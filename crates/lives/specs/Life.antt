@@ -44,10 +44,6 @@ runs (idle a) = 0
 runs (waiting a) = 0
 runs (running a r) = 1
 
--- it runs and has run 0 ticks: the tick before this state has started it
-abbrev pub Begun : Life → Type 0
-Begun x = (runs x ≡ 1) × (ran x ≡ 0)
-
 -- how many of the states x 0 .. x (w - 1) run
 abbrev pub count : (ℕ → Life) → ℕ → ℕ
 count x w = sum (λ e. runs (x e)) w
@@ -105,7 +101,7 @@ WithinC row (idle a) = Unit {0}
 WithinC row (waiting a) = Unit {0}
 WithinC row (running a r) = r < row.C
 
--- The job, if there is one, can still be started in time, or was: it ends by its deadline if it runs on from its start.
+-- The job, if there is one, can still be started in time, or was.
 abbrev pub InTime : Row → Life → Type 0
 InTime row (idle a) = Unit {0}
 InTime row (waiting a) = a ≤ slack row

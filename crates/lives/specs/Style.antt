@@ -29,13 +29,13 @@ pub record Style (n : ℕ) (rows : ℕ → Row) (top : ℕ → ℕ) : Type 1 whe
   -- of the tasks that start in a tick after which k waits: in the state after it they run and have run 0
   pub Starts : ℕ → (ℕ → Life) → Type 0
   -- I of the report: how many states of k's problem window task i can run in
-  pub interference : ℕ → ℕ → ℕ
+  pub charge : ℕ → ℕ → ℕ
   pub charged : Each n (λ k. (y : ℕ → ℕ → Life) → Problem n rows top Starts k y
-      → Each n (λ i. count (λ e. y e i) (slack (rows k)) ≤ interference k i))
+      → Each n (λ i. count (λ e. y e i) (slack (rows k)) ≤ charge k i))
   -- the test: tasks that run (1 or 0 each) in no more states than they are charged for leave one of S states that is
   -- not full
   pub passed : Each n (λ k. (r : ℕ → ℕ → ℕ) → ((e : ℕ) → Each n (λ i. r e i ≤ 1))
-      → Each n (λ i. sum (λ e. r e i) (slack (rows k)) ≤ interference k i)
+      → Each n (λ i. sum (λ e. r e i) (slack (rows k)) ≤ charge k i)
       → ((e : ℕ) → e < slack (rows k) → Full k (r e)) → ⊥)
 
 -- States x 0 to x N, the first one fresh, each other one after a tick of the style.

@@ -1,6 +1,6 @@
 -- A sequence as a course of the theory of lives, and what the theorem says of its lives.
 use Prim.Native.Nat.{ℕ, suc, ◌<◌, ◌≤◌}
-use mathlib.Core.Path.{◌≡◌, sym, ap, subst}
+use mathlib.Core.Path.{◌≡◌, ap, subst}
 use mathlib.Core.List.{List}
 use native.Mathlib.Nat.{le_refl}
 use native.Mathlib.Omega.{arith}
@@ -12,10 +12,9 @@ use Rattle.machine.specs.Jobs.{job}
 use Rattle.machine.specs.Fresh.{trimmed}
 use Rattle.machine.proofs.StateFresh.{fresh-job}
 use Rattle.lives.specs.Report.{Row}
-use Rattle.lives.specs.Life.{Life, idle, Begun, rise, Allowed, WithinC, OnTime}
+use Rattle.lives.specs.Life.{Life, idle, rise, Allowed, WithinC, OnTime}
 use Rattle.lives.specs.Style.{Style, Course}
-use Rattle.lives.proofs.Steps.{begun-started}
-use Rattle.lives.proofs.Styles.{blocking}
+use Rattle.lives.proofs.Base.{base}
 use Rattle.lives.proofs.InTime.{all-within, all_on_time}
 use Rattle.conduct.specs.Lives.{life}
 use Rattle.promise.specs.Sequences.{Report, Sequence, sequence, count, state, releases, finishes, starts}
@@ -53,7 +52,7 @@ module _ (t : Table) (a : Safe t) (xs : List Report) where
   first = each t.n _ (λ i l. ap life (fresh-job t i (omega (arith, (good-table t a).sizes.few)) l))
 
   abbrev pub style : Style t.n (rows t) (tops t)
-  style = blocking (sound t a) (λ k p q. le_refl (tops t k)) a.weighed
+  style = base (sound t a) (λ k p q. le_refl (tops t k)) a.weighed
 
   pub course : Course style (lives s) (count s)
   course =
@@ -69,11 +68,7 @@ module _ (t : Table) (a : Safe t) (xs : List Report) where
               lands = does i l k p q;
             };
         full = λ i l k p q w. same_full t a k p q _ ((conducts t a xs i l).full k p q w);
-        starts =
-            λ i l k p q w j u v b.
-            (conducts t a xs i l).order k p q w j u v
-            (begun-started (tops t j) (lives s i j) (finishes s i j) (releases s i j) (starts s i j)
-            (subst Begun (sym (does i l j u v)) b));
+        starts = λ i l k p q w. tt;
       }
 
   pub on_time_lem : (i : ℕ) → i ≤ count s

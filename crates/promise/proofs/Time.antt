@@ -9,7 +9,6 @@ use Rattle.maths.specs.Tasks.{every, lowest, tabulate}
 use Rattle.table.specs.declared.Refusal.{Refusal}
 use Rattle.table.specs.declared.Table.{Table}
 use Rattle.table.specs.Refused.{table_rules, row_rules, rows_from, refusal}
-use Rattle.lives.specs.Report.{amount, interference_in}
 use Rattle.admission.specs.Test.{Amax, interference, load, limit, less}
 use Rattle.admission.specs.Answers.{quick_answer}
 use Rattle.sets.specs.Sets.{size, members, set_of, set_where}
@@ -29,8 +28,7 @@ use Rattle.promise.proofs.Test.{safe}
 use Rattle.promise.proofs.States.{sound}
 
 p1-verdict : (quick_answer p1).admitted ≡ true
-unfolding quick_answer sum every lowest table_rules row_rules rows_from refusal Amax amount interference_in interference load
-    limit less
+unfolding quick_answer sum every lowest table_rules row_rules rows_from refusal Amax interference load limit less
 p1-verdict = refl
 
 pub contended : Contended

@@ -15,7 +15,8 @@ use Rattle.table.specs.Limits.{most_tasks}
 use Rattle.table.specs.Refused.{refusal, unrefused}
 use Rattle.table.specs.Good.{Good}
 use Rattle.table.proofs.Good.{good_of}
-use Rattle.admission.proofs.Bounds.{S-le, charge_le, weight-small, share-small}
+use Rattle.admission.specs.Test.{interference}
+use Rattle.admission.proofs.Bounds.{row-good, interference-le, weight-le, term_le, B-le, S-le}
 use Rattle.writers.specs.Outputs.{refused_text}
 use Rattle.writers.proofs.Listings.{row-most}
 use Rattle.texts.proofs.Listings.{lines_none, lines-most}
@@ -32,14 +33,18 @@ lines-both (x ∷ xs) ys =
 
 module _ {t : Table} (g : Good t) where
   pair-most : (k : ℕ) → k < t.n → (i : ℕ) → i < t.n → length (line (pair_row t (suc k) (suc i))) ≤ 106
+  unfolding interference
   pair-most k l i h =
       let few = g.sizes.few in
+      let row = row-good g i h in
+      let b = B-le g k l in
+      let s = S-le g k l in
       row-most _ _ _ _ _
       (omega arith)
       (omega arith)
-      (omega (arith, charge_le g k l i h, S-le g k l))
-      (omega (arith, weight-small g k l i h))
-      (omega (arith, share-small g k l i h))
+      (lt_of_le_of_lt (interference-le row s) (lit< tt))
+      (lt_of_le_of_lt (weight-le row g.sizes.cores b) (lit< tt))
+      (lt_of_le_of_lt (term_le row g.sizes.cores b s) (lit< tt))
 
   rows-most : (m : ℕ) → m ≤ t.n → length (lines (grid (pair_row t) t.n m)) ≤ 106 * (m * t.n)
   rows-most zero h =

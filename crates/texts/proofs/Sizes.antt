@@ -12,6 +12,7 @@ use lib.ListN.{length, get_or, take, length-append, length-take}
 use lib.Seq.{get_or-take}
 use Rattle.maths.specs.Tasks.{tabulate}
 use Rattle.maths.proofs.Signed.{sub-mag}
+use Rattle.maths.proofs.Sums.{sum_const, sum_mono}
 use Rattle.maths.proofs.Tasks.{length-tabulate, get_d_tabulate}
 use Rattle.maths.proofs.Padded.{length-padded}
 use Rattle.maths.proofs.Tests.{both}
@@ -31,9 +32,9 @@ use Rattle.table.specs.Good.{Good}
 use Rattle.table.proofs.Good.{good_of}
 use Rattle.table.proofs.Refusals.{refusal_carries}
 use Rattle.admission.specs.declared.FullAnswer.{FullAnswer}
-use Rattle.admission.specs.Test.{load, limit, less, margin, admitted, first_failing}
+use Rattle.admission.specs.Test.{interference, weight, load, limit, less, margin, admitted, first_failing}
 use Rattle.admission.specs.Answers.{margins, full_answer}
-use Rattle.admission.proofs.Bounds.{limit-small, load-small}
+use Rattle.admission.proofs.Bounds.{most_term, row-good, term_le, B-le, S-le, limit-small}
 use Rattle.readers.specs.Inputs.{bad_text}
 use Rattle.writers.specs.Signed.{margin_of, sign, margin_row}
 use Rattle.writers.specs.Outputs.{refused_text, margin_lines, margins_text}
@@ -101,9 +102,20 @@ lines-most k (z ∷ zs) h small =
     simp length-append (omega arith)
 
 module _ (t : Table) (g : Good t) where
+  load-small : (i : ℕ) → i < t.n → load t (suc i) < 2 ^ 62
+  unfolding load interference
+  load-small i l =
+      let few = g.sizes.few in
+      omega (
+        arith,
+        sum_const most_term t.n,
+        sum_mono (λ j. weight t (suc i) (suc j) * interference t (suc i) (suc j)) (λ j. most_term) t.n
+            (λ j h. term_le (row-good g j h) g.sizes.cores (B-le g i l) (S-le g i l)),
+      )
+
   margin-fits : (i : ℕ) → i < t.n → mag (margin t (suc i)) < 2 ^ 63
   unfolding less
-  margin-fits i l = sub-mag (limit t (suc i)) (load t (suc i)) (omega (arith, limit-small g i l)) (omega (arith, load-small g i l))
+  margin-fits i l = sub-mag (limit t (suc i)) (load t (suc i)) (limit-small g i l) (load-small i l)
 
   held_fits : (i : ℕ) → i < length (take t.n (margins t)) → mag (get_or (take t.n (margins t)) i (pos 0)) < 2 ^ 63
   held_fits i l =

@@ -211,13 +211,12 @@ fn single(rng: &mut Rng) -> Table {
     Table { n: 1, m, p, rows: vec![Row { d, t, c: rng.range(1, d), a: rng.range(0, p) }] }
 }
 
-/// Deadlines at the edge of admission, or at the period where there is too much work for that.
+/// Little work and deadlines at the edge of admission, or at the period where that is too short.
 fn admitted(rng: &mut Rng) -> Table {
     let (whole, n) = (rng.pick(&[840, 1_260, 2_520, 5_040, 7_200]), rng.range(1, 5) as usize);
     let periods = periods(rng, whole, n).expect("a small multiple goes into any count of periods");
     let platform = platform(rng);
-    let hundredths = rng.pick(&[8, 20, 40]);
-    let table = table_of(rng, platform, periods, Load { hundredths, times_shortest: 1 });
+    let table = table_of(rng, platform, periods, Load { hundredths: 8, times_shortest: 1 });
     let at_period = Table { rows: table.rows.iter().map(|row| Row { d: row.t, ..*row }).collect(), ..table };
     at_edge(rng, at_period.clone(), Edge::Within).unwrap_or(at_period)
 }

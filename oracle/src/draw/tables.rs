@@ -85,8 +85,7 @@ pub fn loose(rng: &mut Rng) -> Table {
     Table { n: rows.len() as u64, m, p, rows }
 }
 
-/// Small numbers and few cores, where a margin at the edge often is -1, 0 or 1. Deadlines are put near their edge from
-/// the highest task down, as in `at_edge`.
+/// Small numbers and few cores, where a margin at the edge often is -1, 0 or 1.
 pub fn tiny(rng: &mut Rng) -> Table {
     let (m, p) = (rng.pick(&[1, 1, 1, 2, 3]), rng.pick(&[1, 1, 2, 3]));
     let rows = (0..rng.range(1, 3))
@@ -106,9 +105,8 @@ pub fn tiny(rng: &mut Rng) -> Table {
     table
 }
 
-/// The least slack with which task k (from 1) would pass, other numbers being as they are. No charge falls as the slack
-/// rises (`admission` has a test of it), so the load does not, and the least slack is reached from below. It is never
-/// 0: without slack a margin is 0.
+/// The least slack with which task k (from 1) would pass, other numbers being as they are. The load does not fall as
+/// the slack rises, so the least one is reached from below.
 fn least_slack(table: &Table, k: usize) -> Option<u32> {
     let mut t = table.clone();
     let row = &table.rows[k - 1];
@@ -128,47 +126,29 @@ fn least_slack(table: &Table, k: usize) -> Option<u32> {
     }
 }
 
-/// How far deadlines lie from the shortest with which their tasks pass.
+/// How far a deadline lies from the shortest with which its task passes.
 #[derive(Clone, Copy, Debug, PartialEq, Eq)]
 pub enum Edge {
     /// Every task just passes.
     Within,
     /// One task has a tick too few, the others just pass.
     OneShort,
-    /// Every task has a tick more than the least, where its period allows it. It may fail by that: with a tick more of
-    /// slack the load can rise by more than the limit.
-    OneMore,
-    /// Every task has the least slack, a tick less or a tick more.
-    Near,
-    /// Every task has any slack from the least on.
-    Beyond,
     /// Every slack is so many hundredths of the least with which the task passes.
     Share(u32),
 }
 
-impl Edge {
-    /// The slack of a task of which this is the least and the longest; `short` is that of `OneShort`.
-    fn slack(self, rng: &mut Rng, (least, longest): (u32, u32), short: bool) -> u32 {
-        match self {
-            Edge::OneShort if short => least - 1,
-            Edge::Within | Edge::OneShort => least,
-            Edge::OneMore => (least + 1).min(longest),
-            Edge::Near => (least + rng.range(0, 2) - 1).min(longest),
-            Edge::Beyond => rng.range(least, longest),
-            Edge::Share(hundredths) => least * hundredths / 100,
-        }
-    }
-}
-
 /// The table with its deadlines put at the edge of admission; none where some task cannot pass within its period. A
-/// margin hangs on the deadlines of its own task and of the higher ones, whose carry-in jobs run until theirs, and on
-/// no lower one's. So they are put from the highest task down, and each is still at its edge when all are.
+/// margin hangs on the deadline of its own task alone, so each can be put at its edge.
 pub fn at_edge(rng: &mut Rng, mut table: Table, edge: Edge) -> Option<Table> {
+    let least: Vec<u32> = (1..=table.rows.len()).map(|k| least_slack(&table, k)).collect::<Option<_>>()?;
     let short = rng.index(table.rows.len());
-    for i in 0..table.rows.len() {
-        let least = least_slack(&table, i + 1)?;
-        let row = &mut table.rows[i];
-        row.d = row.c + edge.slack(rng, (least, row.t - row.c), i == short);
+    for (i, row) in table.rows.iter_mut().enumerate() {
+        let s = match edge {
+            Edge::OneShort if i == short => least[i].saturating_sub(1),
+            Edge::Share(hundredths) => least[i] * hundredths / 100,
+            _ => least[i],
+        };
+        row.d = row.c + s;
     }
     Some(table)
 }
@@ -178,13 +158,23 @@ pub fn edge(rng: &mut Rng) -> Table {
     for tries in 1..=8 {
         let n = count(rng);
         let table = light(rng, n, tries);
-        let edge = rng.pick(&[Edge::Within, Edge::Within, Edge::OneShort, Edge::OneMore, Edge::Near, Edge::Beyond]);
-        if let Some(table) = at_edge(rng, table.clone(), edge) {
-            return table;
-        }
-        if tries == 8 {
+        let how = rng.range(0, 5);
+        let edge = if how == 2 { Edge::OneShort } else { Edge::Within };
+        let Some(mut table) = at_edge(rng, table.clone(), edge) else {
+            if tries < 8 {
+                continue;
+            }
             return Table { rows: table.rows.iter().map(|row| Row { d: row.t, ..*row }).collect(), ..table };
+        };
+        for row in &mut table.rows {
+            row.d = match how {
+                0..=2 => row.d,
+                3 => (row.d + 1).min(row.t),
+                4 => (row.d + rng.range(0, 2)).saturating_sub(1).clamp(row.c, row.t),
+                _ => rng.range(row.d, row.t),
+            };
         }
+        return table;
     }
     unreachable!("the eighth try is taken")
 }
@@ -201,40 +191,36 @@ pub fn one_short(rng: &mut Rng) -> Table {
     }
 }
 
-/// A table that can mostly be put at its edge: the more `tries`, the longer the periods and the shorter the runs. There
-/// are mostly more tasks than cores, since fewer are hardly in each other's way.
+/// Long periods and short runs: the more `tries`, the lighter.
 fn light(rng: &mut Rng, n: usize, tries: u32) -> Table {
-    let most = if rng.once_in(4) { 16 } else { (n as u32).clamp(2, 17) - 1 };
-    let (m, p) = (rng.range(1, most), rng.range(1, 64));
+    let (m, p) = (rng.range(1, 16), rng.range(1, 64));
     let shortest = rng.scaled(20 * tries, 8_000);
-    loaded(rng, (m, p), n, shortest, (40 / tries, 320 / tries))
+    lightly(rng, m, p, n, shortest, (2 + 2 * tries, 6 + 2 * tries))
 }
 
-/// The same in small numbers, always with more tasks than cores, so that a machine comes round in few ticks and jobs
-/// wait.
+/// A table of small numbers, light enough that most can be admitted, so that a machine comes round in few ticks.
 pub fn short(rng: &mut Rng) -> Table {
-    let (m, p) = (rng.range(1, 4), rng.range(1, 8));
-    let n = rng.range(m + 1, 7) as usize;
-    let shortest = rng.range(4, 30);
-    loaded(rng, (m, p), n, shortest, (50, 250))
+    let (m, p, n) = (rng.range(1, 4), rng.range(1, 8), rng.range(1, 7) as usize);
+    let shortest = rng.range(8, 60);
+    lightly(rng, m, p, n, shortest, (3, 12))
 }
 
-/// Periods from `shortest` on, mostly the shorter ones of higher tasks; and runs up to so long that all of them
-/// together would take so many hundredths of what the platform can carry in the shortest period.
-fn loaded(rng: &mut Rng, (m, p): (u32, u32), n: usize, shortest: u32, hundredths: (u32, u32)) -> Table {
+/// Periods from `shortest` on, and runs that together take about one part in `parts` of what the platform can carry in
+/// the shortest.
+fn lightly(rng: &mut Rng, m: u32, p: u32, n: usize, shortest: u32, parts: (u32, u32)) -> Table {
     let widest = rng.scaled(0, p);
-    let most = rng.pick(&[1, 2, 4, 8, 8, 16, 16, 32]);
-    let mut periods: Vec<u32> = (0..n).map(|_| rng.range(shortest, (shortest * most).min(65_535))).collect();
-    if !rng.once_in(3) {
-        periods.sort_unstable();
+    let most = rng.range(1, 8);
+    let mut rows = vec![Row { d: 1, t: 1, c: 1, a: 0 }; n];
+    for row in &mut rows {
+        row.a = rng.scaled(0, widest);
+        row.t = rng.range(shortest, (shortest * most).min(65_535));
     }
-    let mut rows: Vec<Row> = periods.iter().map(|&t| Row { d: t, t, c: 1, a: rng.scaled(0, widest) }).collect();
     let b = u64::from(p - rows.iter().map(|i| i.a).max().unwrap() + 1);
-    let all = u64::from(m) * b * u64::from(shortest) * u64::from(rng.range(hundredths.0, hundredths.1)) / 100;
+    let part = u64::from(rng.range(parts.0, parts.1));
     for row in &mut rows {
         let weight = b.max(u64::from(m) * u64::from(row.a));
-        let share = all / (n as u64 * weight);
-        row.c = rng.range(1, share.clamp(1, row.t.into()) as u32);
+        let share = u64::from(m) * b * u64::from(shortest) / (part * n as u64 * weight);
+        row.c = rng.range(1, (share.max(1) as u32).min(row.t));
     }
     Table { n: n as u64, m, p, rows }
 }
@@ -357,58 +343,12 @@ mod tests {
         assert!(admitted > 500 && turned_down > 300, "{admitted} {turned_down}");
     }
 
-    /// The margin of task k with its deadline moved, the others being as they are.
-    fn moved(table: &Table, k: usize, by: i32) -> i128 {
-        let mut t = table.clone();
-        t.rows[k - 1].d = t.rows[k - 1].d.checked_add_signed(by).unwrap();
-        margin(&t, k)
-    }
-
-    /// Once all deadlines are put, each is still where its task just passes, or a tick short of that, or a tick more.
-    #[test]
-    fn every_task_is_at_its_edge_when_all_are_put() {
-        let mut rng = Rng::new(7);
-        for tries in 1..=600 {
-            let table = if tries % 2 == 0 { short(&mut rng) } else { light(&mut rng, 1 + tries % 32, 1) };
-            for edge in [Edge::Within, Edge::OneShort, Edge::OneMore] {
-                let Some(t) = at_edge(&mut rng, table.clone(), edge) else { continue };
-                let least = |k: usize, by: i32| moved(&t, k, by) > 0 && moved(&t, k, by - 1) <= 0;
-                let mut short = 0;
-                for (k, row) in (1..).zip(&t.rows) {
-                    let a_tick_short = edge == Edge::OneShort && least(k, 1);
-                    let a_tick_more = edge == Edge::OneMore && least(k, -1);
-                    let none_left = edge != Edge::OneMore || row.d == row.t;
-                    assert!(a_tick_short || a_tick_more || none_left && least(k, 0), "{edge:?} {k} {t:?}");
-                    short += usize::from(a_tick_short);
-                }
-                assert_eq!(short, usize::from(edge == Edge::OneShort));
-            }
-        }
-    }
-
-    /// A task with one tick of slack that just passes has nobody in its way to speak of.
-    #[test]
-    fn most_edge_tables_contend() {
-        let mut rng = Rng::new(9);
-        let slacks = |t: &Table| t.rows.iter().map(|row| row.d - row.c).max().unwrap();
-        let (mut put, mut contend) = ([0; 2], [0; 2]);
-        for tries in 0..2000 {
-            let n = count(&mut rng);
-            let table = if tries % 2 == 0 { light(&mut rng, n, 1) } else { short(&mut rng) };
-            if let Some(t) = at_edge(&mut rng, table, Edge::Within) {
-                put[tries % 2] += 1;
-                contend[tries % 2] += u32::from(slacks(&t) > 1);
-            }
-        }
-        assert!(put.iter().all(|&x| x > 700) && contend[0] > 450 && contend[1] == put[1], "{put:?} {contend:?}");
-    }
-
     #[test]
     fn one_task_alone_does_not_pass() {
         let mut rng = Rng::new(8);
         let mut firsts = std::collections::BTreeSet::new();
         for _ in 0..3000 {
-            let answer = full(&one_short(&mut rng));
+            let answer = crate::admission::full(&one_short(&mut rng));
             assert_eq!(answer.margins.iter().filter(|&&x| x <= 0).count(), 1);
             firsts.insert(answer.first);
         }

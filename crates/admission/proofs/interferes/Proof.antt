@@ -1,28 +1,29 @@
-use Prim.Native.Nat.{suc}
-use mathlib.Core.Path.{sym, ◌∙◌}
 use native.Mathlib.Omega.{arith}
+use Rattle.maths.proofs.Widths.{fits_mul}
+use Rattle.admission.proofs.Bounds.{jobs-le}
 use borrow.Author.Rules.{rules}
-use Rattle.lives.proofs.Charges.{interference-own, interference-other}
-use Rattle.admission.specs.Test.{row}
 use Rattle.admission.proofs.interferes.Statement.{statement}
 use Rattle.admission.proofs.interferes.Tie as tie
 
+div-jobs : tie.Need-nonzero-div-jobs
+div-jobs c = search rules
+
+add-jobs : tie.Need-overflow-add-jobs
+add-jobs c = let s = c.before in omega (arith, jobs-le s.requires.1 s.requires.0)
+
+cast-result : tie.Need-overflow-cast-result
+cast-result c = let s = c.before in omega (arith, jobs-le s.requires.1 s.requires.0)
+
+cast-result-2 : tie.Need-overflow-cast-result-2
+cast-result-2 c = search rules
+
+mul-result : tie.Need-overflow-mul-result
+mul-result c = let s = c.before.before in
+    fits_mul 65537 65535 tt (omega (arith, jobs-le s.requires.1 s.requires.0)) (omega arith)
+
 returns : tie.Need-returns
-returns c =
-    let args = c.before.before.args in
-    sym (interference-own (suc args.x.k) (suc args.i) args.x.s (row args.task) (omega arith))
-
-charge-of-requires : tie.Need-charge-of-requires
-charge-of-requires c κs = search rules
-
-amount-requires : tie.Need-amount-requires
-amount-requires c κs = search rules
-
-returns-2 : tie.Need-returns-2
-returns-2 c =
-    let args = c.before.before.before.before.args in
-    c.amount.ensures ∙ rw c.before.charge-of.ensures
-    (sym (interference-other (suc args.x.k) (suc args.i) args.x.s (row args.task) (λ e. omega (arith, c.before.before.if1.false))))
+returns c = search rules
 
 pub interferes-spec : {M : Type 1} → statement M
-interferes-spec = tie.close (tie.spec returns charge-of-requires amount-requires returns-2)
+interferes-spec =
+    tie.close (tie.spec div-jobs add-jobs cast-result cast-result-2 mul-result returns)

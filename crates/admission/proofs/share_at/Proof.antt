@@ -1,7 +1,7 @@
 use borrow.Author.Rules.{rules}
 use mathlib.Core.Path.{◌∙◌}
-use Rattle.admission.proofs.Turns.{Measured, measured_needs, measured, term_needs}
-use Rattle.admission.proofs.Shares.{shared_is}
+use Rattle.admission.proofs.Turns.{Measured, measured_needs, measured}
+use Rattle.admission.proofs.Shares.{shared_needs, shared_is}
 use Rattle.admission.proofs.share_at.Statement.{statement}
 use Rattle.admission.proofs.share_at.Tie as tie
 
@@ -11,7 +11,7 @@ measures : (c : tie.After-measured) →
 measures c =
     let s = c.before.before.before.before in
     let e = c.measured.ensures in
-    measured s.requires.0 s.requires.1 c.before.before.before.amax.ensures e
+    measured s.requires.0 s.requires.1 c.before.before.before.amax.ensures e.0 e.1 e.2
 
 amax-requires : tie.Need-amax-requires
 amax-requires c κs = search rules
@@ -36,15 +36,15 @@ element-copy-out-shared c = search rules
 
 shared-requires : tie.Need-shared-requires
 shared-requires c κs =
-    let m = c.before in
+    let m = c.before.before in
     let s = m.before.before.before.before in
-    term_needs s.requires.0 s.requires.1 (measures m) s.args.i s.requires.2
+    shared_needs s.requires.0 s.requires.1 (measures m) s.args.i s.requires.2
 
 returns : tie.Need-returns
 returns c =
-    let m = c.before.before in
+    let m = c.before.before.before in
     let s = m.before.before.before.before in
-    c.shared.ensures ∙ shared_is s.args.t1 (measures m) s.args.i
+    c.shared.ensures ∙ shared_is s.requires.0 s.requires.1 (measures m) s.args.i
 
 pub share-at-spec : {M : Type 1} → statement M
 share-at-spec =

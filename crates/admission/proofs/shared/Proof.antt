@@ -8,9 +8,6 @@ weighs-requires c κs = search rules
 interferes-requires : tie.Need-interferes-requires
 interferes-requires c κs = search rules
 
-cast-t6 : tie.Need-overflow-cast-t6
-cast-t6 c = search rules
-
 cast-t7 : tie.Need-overflow-cast-t7
 cast-t7 c = search rules
 
@@ -24,4 +21,4 @@ returns c =
 
 pub shared-spec : {M : Type 1} → statement M
 shared-spec =
-    tie.close (tie.spec weighs-requires interferes-requires cast-t6 cast-t7 term-requires returns)
+    tie.close (tie.spec weighs-requires interferes-requires cast-t7 term-requires returns)

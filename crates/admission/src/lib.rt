@@ -1,4 +1,5 @@
 // The admission answers: the second test of the report, task by task, with exact margins.
+#![tactic(auto)]
 ghost use Rattle.std.specs.Prelude.{◌≡◌, ℕ, suc, ◌+◌, ◌-◌, ◌*◌, ◌^◌, ◌<◌, ◌≤◌, max, cond, not, ◌&&◌, leb};
 ghost use Rattle.maths.specs.Tasks.{or_else};
 ghost use Rattle.table.specs.Good.{Good, GoodRow};
@@ -14,7 +15,7 @@ ghost use Rattle.admission.specs.Code.Judged.{full_judged, quick_judged};
 use table::{Cores, Partitions, Refusal, Table, Task};
 
 #[repr(C)]
-#[derive(Drop)]
+#[derive(Clone, Copy)]
 pub struct FullAnswer {
     pub refused: Refusal,
     pub admitted: bool,
@@ -23,7 +24,7 @@ pub struct FullAnswer {
 }
 
 // What a task takes of another's limit, and the two numbers that it is the product of.
-#[derive(Drop)]
+#[derive(Clone, Copy)]
 pub struct Share {
     pub interference: u64,
     pub weight: u64,
@@ -31,7 +32,7 @@ pub struct Share {
 }
 
 // Of one task: Amax and B, counts of partitions, and its slack.
-#[derive(Drop)]
+#[derive(Clone, Copy)]
 struct Measures {
     most: Partitions,
     b: Partitions,
@@ -39,7 +40,7 @@ struct Measures {
 }
 
 #[repr(C)]
-#[derive(Drop)]
+#[derive(Clone, Copy)]
 pub struct QuickAnswer {
     pub refused: Refusal,
     pub admitted: bool,

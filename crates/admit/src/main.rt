@@ -1,5 +1,6 @@
 // Judges the table of platform.csv and tasks.csv, of the working folder, and writes a row for each task, or the
 // refusal.
+#![tactic(auto)]
 ghost use Rattle.std.specs.Prelude.{◌≡◌};
 ghost use Rattle.table.specs.Refused.{no_refusal};
 ghost use Rattle.files.specs.Got.{Whole};

@@ -1,5 +1,6 @@
 // Writes for each pair of tasks of platform.csv and tasks.csv, of the working folder, what the one takes of the other's
 // limit, or the refusal.
+#![tactic(auto)]
 ghost use Rattle.std.specs.Prelude.{◌≡◌};
 ghost use Rattle.table.specs.Refused.{no_refusal};
 ghost use Rattle.files.specs.Got.{Whole};

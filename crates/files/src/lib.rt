@@ -1,15 +1,16 @@
 // Whole files, for the programs: into a buffer that the caller lends. A file that is longer fills the buffer.
+#![tactic(auto)]
 ghost use Rattle.std.specs.Prelude.{◌+◌, ◌≤◌, ◌≡◌, length};
 ghost use Rattle.files.specs.Got.{Whole};
 
 // How many bytes came, if the file could be read.
-#[derive(Drop)]
+#[derive(Clone, Copy)]
 pub struct File {
     pub there: bool,
     pub length: usize,
 }
 
-#[derive(Drop)]
+#[derive(Clone, Copy)]
 struct Some {
     failed: bool,
     count: usize,
@@ -70,7 +71,7 @@ pub fn read_file(path: &[u8], buf: &mut [u8]) -> File
 // One byte more than the longest text that a program takes.
 pub const ROOM: usize = texts::LONGEST + 1;
 
-#[derive(Drop)]
+#[derive(Clone, Copy)]
 pub struct TableFiles {
     pub platform: File,
     pub tasks: File,

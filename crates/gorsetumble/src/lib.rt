@@ -1,4 +1,5 @@
 // What the outside calls: a lent row of task records, and a machine that the caller lends and gets moved on.
+#![tactic(auto)]
 pub mod lending;
 pub mod texting;
 

@@ -17,7 +17,7 @@ use writers::{TextsWritten, Written};
 
 // Why two texts set up no machine, and which text the refusal is in: 1 the platform, 2 the tasks, 0 neither.
 #[repr(C)]
-#[derive(Drop)]
+#[derive(Clone, Copy)]
 pub struct TextRefusal {
     pub refused: Refusal,
     pub text: u32,
@@ -29,13 +29,13 @@ impl TextRefusal {
     const TASKS: u32 = 2;
 }
 
-#[derive(Drop)]
+#[derive(Clone, Copy)]
 pub(crate) struct TextsSetUp {
     refused: TextRefusal,
     machine: Machine,
 }
 
-#[derive(Drop)]
+#[derive(Clone, Copy)]
 pub(crate) struct TextsRead {
     refused: TextRefusal,
     table: Table,

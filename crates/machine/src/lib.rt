@@ -1,4 +1,5 @@
 // The machine: a table and the job of each task, what a tick answers, and what a start asks.
+#![tactic(auto)]
 ghost use Rattle.std.specs.Prelude.{◌≡◌};
 ghost use Rattle.machine.specs.Steps.{fits_in};
 
@@ -8,12 +9,12 @@ use table::{Cores, Partitions, Refusal, Table, Task};
 
 // 0 idle, 1 waiting, 2 running; no good state has another.
 #[repr(C)]
-#[derive(Drop)]
+#[derive(Clone, Copy)]
 pub struct Stage(pub u32);
 
 // Of a task's job: age counts ticks since its release, ran those that it has run; held is its set of partitions.
 #[repr(C)]
-#[derive(Drop)]
+#[derive(Clone, Copy)]
 pub struct Job {
     pub stage: Stage,
     pub age: u32,
@@ -22,13 +23,13 @@ pub struct Job {
 }
 
 #[repr(C)]
-#[derive(Drop)]
+#[derive(Clone, Copy)]
 pub struct Machine {
     pub table: Table,
     pub jobs: [Job; Table::MOST],
 }
 
-#[derive(Drop)]
+#[derive(Clone, Copy)]
 pub struct SetUp {
     pub refused: Refusal,
     pub machine: Machine,
@@ -36,7 +37,7 @@ pub struct SetUp {
 
 // What a tick answers: three sets of tasks, or the refusal.
 #[repr(C)]
-#[derive(Drop)]
+#[derive(Clone, Copy)]
 pub struct Answer {
     pub refused: Refusal,
     pub finished: u32,
@@ -44,7 +45,7 @@ pub struct Answer {
     pub started: u32,
 }
 
-#[derive(Drop)]
+#[derive(Clone, Copy)]
 pub struct Ticked {
     pub machine: Machine,
     pub answer: Answer,

@@ -1,4 +1,5 @@
 // The greatest common divisor and the least common multiple.
+#![tactic(auto)]
 ghost use Rattle.std.specs.Prelude.{◌≡◌, cond, leb};
 ghost use Rattle.multiples.specs.Gcd.{gcd, lcm};
 

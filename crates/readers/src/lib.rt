@@ -1,4 +1,5 @@
 // Readers of document 01's texts. Each reads as far as a good text could go, and says where that is.
+#![tactic(auto)]
 ghost use Rattle.std.specs.Prelude.{◌+◌, ◌*◌, ◌<◌, ◌≤◌, ◌≡◌, false, [], leb, length};
 ghost use Rattle.forms.specs.Forms.{ending, platform_form, tasks_form, ticks_form};
 ghost use Rattle.forms.specs.Reads.{refused};
@@ -10,21 +11,21 @@ ghost use Rattle.readers.specs.Code.Digits.{grown_to, Narrow};
 use table::{Cores, Partitions, Platform, Refusal, Table, Task};
 
 // A number with a further digit, where that may follow.
-#[derive(Drop)]
+#[derive(Clone, Copy)]
 struct Grown {
     may: bool,
     value: u64,
 }
 
 // The number at a place: `next` is past it, or is the place where none begins.
-#[derive(Drop)]
+#[derive(Clone, Copy)]
 struct Number {
     value: u64,
     next: usize,
 }
 
 // A number with what ends it; where it is not whole, `next` is the first byte that may not stand there.
-#[derive(Drop)]
+#[derive(Clone, Copy)]
 struct Cell {
     value: u64,
     next: usize,
@@ -33,7 +34,7 @@ struct Cell {
 
 // A row's numbers, as many as its form has columns; where it is not whole, `next` is the first byte that may not stand
 // there.
-#[derive(Drop)]
+#[derive(Clone, Copy)]
 struct Row {
     numbers: [u64; Row::MOST],
     next: usize,
@@ -208,7 +209,7 @@ fn row_at(s: &[u8], at: usize, columns: &[u64]) -> Row
     }
 }
 
-#[derive(Drop)]
+#[derive(Clone, Copy)]
 pub struct PlatformRead {
     pub refused: Refusal,
     pub platform: Platform,
@@ -256,7 +257,7 @@ pub fn read_platform(s: &[u8]) -> PlatformRead
     }
 }
 
-#[derive(Drop)]
+#[derive(Clone, Copy)]
 pub struct TableRead {
     pub refused: Refusal,
     pub table: Table,
@@ -325,19 +326,19 @@ pub fn read_tasks(s: &[u8], platform: Platform) -> TableRead
 }
 
 // One row of a ticks text: the sets of tasks released and finished.
-#[derive(Drop)]
+#[derive(Clone, Copy)]
 pub struct Tick {
     pub released: u32,
     pub finished: u32,
 }
 
-#[derive(Drop)]
+#[derive(Clone, Copy)]
 pub struct TicksRead {
     pub refused: Refusal,
     pub count: usize,
 }
 
-#[derive(Drop)]
+#[derive(Clone, Copy)]
 pub struct TickRead {
     pub tick: Tick,
     pub next: usize,

@@ -1,5 +1,6 @@
 // Rehearses the table of platform.csv and tasks.csv, of the working folder, and writes for each task how many jobs it
 // started and the tick at which it was late, or the refusal.
+#![tactic(auto)]
 ghost use Rattle.std.specs.Prelude.{◌≡◌};
 ghost use Rattle.table.specs.Refused.{no_refusal};
 ghost use Rattle.files.specs.Got.{Whole};

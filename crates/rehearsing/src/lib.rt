@@ -1,4 +1,5 @@
 // A table rehearsed, event by event: ticks that bring nothing are leapt over.
+#![tactic(auto)]
 ghost use Rattle.std.specs.Prelude.{◌≡◌, true, ◌≤◌};
 ghost use Rattle.table.specs.Refused.{unrefused};
 ghost use Rattle.rehearsal.specs.Multiple.{multiple, most_multiple};
@@ -15,7 +16,7 @@ use table::{Cores, Partitions, Refusal, Table};
 
 // A task on the bench, by the ticks at which something becomes of it: its next release, the tick at which its
 // unfinished job is late, the tick at which its running job has run C. And how many jobs it started.
-#[derive(Drop)]
+#[derive(Clone, Copy)]
 struct Lane {
     due: u32,
     late: u32,
@@ -25,7 +26,7 @@ struct Lane {
 
 // What a pass over the tasks carries: the lane that it came to last; how many cores and partitions are idle; the lowest
 // late task; whether step 5 goes on; the first tick to come at which something happens.
-#[derive(Drop)]
+#[derive(Clone, Copy)]
 struct Pass {
     lane: Lane,
     cores: Cores,

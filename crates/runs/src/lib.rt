@@ -1,4 +1,5 @@
 // What the program "ticks" writes: the ticks of a text on the fresh machine of a table.
+#![tactic(auto)]
 ghost use Rattle.std.specs.Prelude.{◌+◌, ◌*◌, ◌<◌, ◌≤◌, ◌≡◌, leb, length};
 ghost use Rattle.forms.specs.Forms.{ticks_form};
 ghost use Rattle.forms.specs.Reader.{read};
@@ -13,7 +14,7 @@ use table::{Refusal, Table};
 use writers::{Room, Written};
 
 // A run at the place of its next tick: the machine, how many ticks it took, and the row of the last one.
-#[derive(Drop)]
+#[derive(Clone, Copy)]
 struct Run {
     machine: Machine,
     taken: u64,

@@ -1,6 +1,7 @@
 // A machine in use by one clinic is set up anew for the next: it holds nothing of the old, and a table that is refused
 // leaves it at work.
 // Every step goes through the lent forms.
+#![tactic(auto)]
 use gorsetumble::lending;
 use machine::{Machine, Stage};
 use table::{Cores, Partitions, Platform, Refusal, Table, Task};
@@ -23,7 +24,7 @@ fn one_if_runs(s: Stage) -> u64 {
     if s.is_running() { 1 } else { 0 }
 }
 
-#[derive(Drop)]
+#[derive(Clone, Copy)]
 struct Use {
     running: u64,
     held: u64,
@@ -136,8 +137,8 @@ fn main() {
         next_clinic(),
         lending::MOST,
     );
-    let goes_on_lem = tick(too_many, 0, 1);
-    let next = set_up(b"the next clinic, two rows", goes_on_lem, b, next_clinic(), 2);
+    let goes_on = tick(too_many, 0, 1);
+    let next = set_up(b"the next clinic, two rows", goes_on, b, next_clinic(), 2);
     let named = tick(next, 0, 4);
     let unknown = tick(named, 0, 2);
     tick(unknown, 3, 0);

@@ -1,26 +1,27 @@
 // The task table of a unit and its platform, the limits of each, and refusals 1 to 8 of document 01.
+#![tactic(auto)]
 ghost use Rattle.std.specs.Prelude.{min, ◌≤◌, ◌≡◌};
 ghost use Rattle.table.specs.Limits.{most_tasks, most_cores, most_partitions, longest_period};
 ghost use Rattle.table.specs.Refused.{sizes_refusal, row_refusal, rows_refusal, refusal};
 ghost use Rattle.table.specs.Tasks.{no_task, empty_table};
 
 #[repr(C)]
-#[derive(Drop)]
+#[derive(Clone, Copy)]
 pub struct Cores(pub u32);
 
 #[repr(C)]
-#[derive(Drop)]
+#[derive(Clone, Copy)]
 pub struct Partitions(pub u32);
 
 #[repr(C)]
-#[derive(Drop)]
+#[derive(Clone, Copy)]
 pub struct Platform {
     pub cores: Cores,
     pub partitions: Partitions,
 }
 
 #[repr(C)]
-#[derive(Drop)]
+#[derive(Clone, Copy)]
 pub struct Task {
     pub d: u32,
     pub t: u32,
@@ -30,7 +31,7 @@ pub struct Task {
 
 // Rows from n on are not the table's.
 #[repr(C)]
-#[derive(Drop)]
+#[derive(Clone, Copy)]
 pub struct Table {
     pub platform: Platform,
     pub n: usize,
@@ -39,7 +40,7 @@ pub struct Table {
 
 // Number 0 is no refusal.
 #[repr(C)]
-#[derive(Drop)]
+#[derive(Clone, Copy)]
 pub struct Refusal {
     pub number: u32,
     pub row: usize,

@@ -1,4 +1,5 @@
 // One tick under blocking FP_CA, by value, in two passes over the tasks: the first judges and the second moves.
+#![tactic(auto)]
 ghost use Rattle.std.specs.Prelude.{◌≡◌, cond, eqb};
 ghost use Rattle.machine.specs.Tick.{tick};
 
@@ -13,7 +14,7 @@ use table::{Cores, Partitions, Refusal, Table, Task};
 
 // What a tick's first pass found so far: the state is good; the first of refusals 10 to 13; the cores that running jobs
 // have and the partitions that they hold, and those of the jobs that go on running after step 2.
-#[derive(Drop)]
+#[derive(Clone, Copy)]
 struct Look {
     good: bool,
     refused: Refusal,
@@ -24,7 +25,7 @@ struct Look {
 }
 
 // What the entries past n have, put together: a zero row and a zero job where all are.
-#[derive(Drop)]
+#[derive(Clone, Copy)]
 struct Past {
     row: Task,
     job: Job,
@@ -32,7 +33,7 @@ struct Past {
 
 // What a tick's second pass made so far: the job that it came to last; whether step 5 goes on, with how many idle
 // cores, which idle partitions and how many; and the sets to answer.
-#[derive(Drop)]
+#[derive(Clone, Copy)]
 pub struct Walk {
     job: Job,
     goes: bool,

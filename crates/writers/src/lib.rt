@@ -1,5 +1,6 @@
 // Writers of document 01's texts into buffers that the caller lends. A text is measured first; where it does not fit,
 // nothing is changed.
+#![tactic(auto)]
 ghost use Rattle.std.specs.Prelude.{◌+◌, ◌≤◌, min, ◌≡◌, [], ◌∷◌, ◌++◌, length, take};
 ghost use Rattle.forms.specs.Digits.{digits};
 ghost use Rattle.forms.specs.Forms.{ending, line};
@@ -14,14 +15,14 @@ ghost use Rattle.table.specs.Refused.{no_refusal};
 use table::{Platform, Refusal, Table, Task};
 
 #[repr(C)]
-#[derive(Drop)]
+#[derive(Clone, Copy)]
 pub struct Written {
     pub refused: Refusal,
     pub length: usize,
 }
 
 // What is left of some room, where there was enough.
-#[derive(Drop)]
+#[derive(Clone, Copy)]
 pub struct Room {
     pub enough: bool,
     pub left: usize,
@@ -306,7 +307,7 @@ pub fn write_tasks(t: Table, buf: &mut [u8]) -> Written
 }
 
 // A margin for the listing: whether it is negative, its size, and 1 where it is above 0.
-#[derive(Drop)]
+#[derive(Clone, Copy)]
 struct Margin {
     below: bool,
     size: u64,
@@ -502,7 +503,7 @@ pub fn write_ticks(released: &[u32], finished: &[u32], buf: &mut [u8]) -> Writte
 }
 
 #[repr(C)]
-#[derive(Drop)]
+#[derive(Clone, Copy)]
 pub struct TextsWritten {
     pub refused: Refusal,
     pub platform: usize,

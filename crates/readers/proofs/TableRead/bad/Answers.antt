@@ -1,0 +1,6 @@
+use borrow.Author.Rules.{rules}
+use Rattle.readers.proofs.TableRead.bad.Goals as goal
+
+pub returns : goal.returns
+returns c = rw c.empty.ensures
+

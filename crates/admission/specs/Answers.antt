@@ -1,6 +1,6 @@
 -- The two answers of document 01: full, with the margin of each task 1 to n and 0 beyond, and quick, with the verdict
 -- and the first task that does not pass. A refused table carries number and row, and all else is 0.
-use Rattle.std.specs.Prelude.{ℕ, false, cond, List, leb, ℤ, pos}
+use Rattle.std.specs.Prelude.{false, cond, List, leb, ℤ, pos}
 use Rattle.maths.specs.Tasks.{tabulate}
 use Rattle.table.specs.declared.Table.{Table}
 use Rattle.table.specs.declared.Refusal.{Refusal}

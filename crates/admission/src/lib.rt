@@ -1,5 +1,6 @@
 // The admission answers: the second test of the report, task by task, with exact margins.
 #![tactic(auto)]
+
 ghost use Rattle.std.specs.Prelude.{◌≡◌, ℕ, suc, ◌+◌, ◌-◌, ◌*◌, ◌^◌, ◌<◌, ◌≤◌, max, cond, not, ◌&&◌, leb};
 ghost use Rattle.maths.specs.Tasks.{or_else};
 ghost use Rattle.table.specs.Good.{Good, GoodRow};

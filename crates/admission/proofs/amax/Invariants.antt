@@ -1,16 +1,10 @@
-use borrow.Author.Rules.{rules}
 use Prim.Native.Nat.{◌≤◌, ◌-◌}
-use mathlib.Core.Path.{◌≡◌, sym}
-use native.Mathlib.Omega.{arith}
+use mathlib.Core.Path.{◌≡◌}
 use Rattle.admission.specs.Test.{Amax}
-use Rattle.admission.proofs.Bounds.{Amax-zero}
-use Rattle.admission.proofs.Laws.{Amax-more}
 use Rattle.admission.proofs.amax.Given as goal
 
 abbrev pub invariant-loop-i : goal.invariant-loop-i
 invariant-loop-i l = (l.i ≤ l.k) × (l.most.0 ≡ Amax l.t l.i)
 
-
 abbrev pub decreases-loop-i : goal.decreases-loop-i
 decreases-loop-i l = l.k - l.i
-

@@ -1,13 +1,10 @@
 use Rattle.maths.proofs.Signed.{difference_fits, difference_is}
 use Rattle.admission.specs.Test.{less}
-use borrow.Author.Rules.{rules}
 use Rattle.admission.proofs.difference.Goals as goal
 
 pub overflow_sub-result : goal.overflow_sub-result
 overflow_sub-result c = search difference_fits
 
-
 pub returns : goal.returns
 unfolding less
 returns c = search difference_is
-

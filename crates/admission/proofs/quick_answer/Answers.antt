@@ -1,21 +1,19 @@
-use Prim.Native.Nat.{suc, ◌≤◌, ◌<◌, ◌-◌, ◌+◌}
+use Prim.Native.Nat.{suc, ◌≤◌, ◌<◌, ◌+◌}
 use mathlib.Core.Path.{◌≡◌, sym, ◌∙◌}
 use mathlib.Core.Bool.{not}
 use native.Mathlib.Numerals.{add-one}
 use native.Mathlib.Omega.{arith}
 use lib.ListN.{length}
-use Rattle.maths.specs.Tasks.{lowest}
 use Rattle.maths.proofs.Lists.{len_mapped}
 use Rattle.maths.proofs.Tasks.{lowest-zero, lowest-past, lowest-found, lowest-stays}
 use Rattle.table.specs.Limits.{most_tasks}
 use Rattle.table.specs.Refused.{sizes_refusal}
-use Rattle.admission.specs.Test.{Amax, passes, load, limit}
-use Rattle.admission.specs.Code.Judged.{quick_judged}
-use Rattle.admission.proofs.Answers.{Unrefused, quick_refused_is, quick_is}
+use Rattle.admission.specs.Test.{passes, load, limit}
+use Rattle.admission.proofs.Answers.{quick_refused_is, quick_is}
 use Rattle.admission.proofs.Bounds.{Amax-zero}
 use Rattle.admission.proofs.Laws.{load-all, load_grows, passes-below, fails-reached}
-use Rattle.admission.proofs.Turns.{Checked, sizes-bad, checked_none, row-refused, checked_more, checked_all}
-use Rattle.admission.proofs.Turns.{Loading, measured_needs, measured, limited_needs, limit_is, loading_none}
+use Rattle.admission.proofs.Turns.{sizes-bad, checked_none, row-refused, checked_more, checked_all}
+use Rattle.admission.proofs.Turns.{measured_needs, measured, limited_needs, limit_is, loading_none}
 use Rattle.admission.proofs.Turns.{term_needs, loading_more}
 use borrow.Author.Rules.{rules}
 use Rattle.admission.proofs.quick_answer.Goals as goal
@@ -25,7 +23,6 @@ returns-then-sizes-ne0 c =
     c.quick_refused.ensures ∙ quick_refused_is (sizes-bad c.args.t
     c.sizes_refused-sizes.ensures c.if-sizes-ne0.true)
 
-
 pub loop-row-init : goal.loop-row-init
 loop-row-init c =
     let t = c.args.t in
@@ -33,20 +30,16 @@ loop-row-init c =
     let e : sizes_refusal t ≡ 0 = cc in
     (search rules, checked_none len e)
 
-
 pub returns-then-number-ne0 : goal.returns-then-number-ne0
 returns-then-number-ne0 c =
     c.quick_refused-then-number-ne0.ensures ∙ quick_refused_is (row-refused c.loop-row.invariant.1 c.loop-row-test.true
     c.refused-number.ensures c.if-number-ne0.true)
 
-
 pub loop-row-preserved : goal.loop-row-preserved
-loop-row-preserved c =
-    (
-      search rules,
-      checked_more c.loop-row.invariant.1 c.loop-row-test.true (sym c.if-number-ne0.false ∙ c.refused-number.ensures),
-    )
-
+loop-row-preserved c = (
+  search rules,
+  checked_more c.loop-row.invariant.1 c.loop-row-test.true (sym c.if-number-ne0.false ∙ c.refused-number.ensures),
+)
 
 pub tasks-init : goal.tasks-init
 tasks-init c = (
@@ -57,17 +50,14 @@ tasks-init c = (
   c.quick_judged-answer.ensures,
 )
 
-
 pub measured-x-requires : goal.measured-x-requires
 measured-x-requires c = measured_needs c.tasks.invariant.3.good c.tasks-test.true c.tasks.invariant.2
-
 
 pub limited-l-requires : goal.limited-l-requires
 limited-l-requires c =
     let e = c.measured-x.ensures in
     let g = c.tasks.invariant.3.good in
     limited_needs g c.tasks-test.true (measured g c.tasks-test.true c.tasks.invariant.2 e.0 e.1 e.2)
-
 
 pub loop-i-init : goal.loop-i-init
 loop-i-init c =
@@ -79,10 +69,8 @@ loop-i-init c =
       c.tasks.invariant.4,
     )
 
-
 pub term-load-requires : goal.term-load-requires
 term-load-requires c = term_needs c.loop-i.invariant.1 c.loop-i-test.true
-
 
 pub overflow_add-load : goal.overflow_add-load
 overflow_add-load c = omega (
@@ -91,16 +79,13 @@ overflow_add-load c = omega (
       c.term-load.ensures).small,
 )
 
-
 pub loop-i-preserved : goal.loop-i-preserved
-loop-i-preserved c =
-    (
-      search rules,
-      loading_more c.loop-i.invariant.1 c.loop-i-test.true c.term-load.ensures,
-      λ z. c.if-l-load.false,
-      c.loop-i.invariant.3,
-    )
-
+loop-i-preserved c = (
+  search rules,
+  loading_more c.loop-i.invariant.1 c.loop-i-test.true c.term-load.ensures,
+  λ z. c.if-l-load.false,
+  c.loop-i.invariant.3,
+)
 
 pub tasks-preserved : goal.tasks-preserved
 tasks-preserved c =
@@ -119,13 +104,11 @@ tasks-preserved c =
       c.loop-i.invariant.3,
     )
 
-
 pub returns-after-tasks : goal.returns-after-tasks
 returns-after-tasks c =
     let at-end : c.tasks.k
     ≡ c.args.t.n = omega arith in
     c.tasks.invariant.4 ∙ quick_is c.tasks.invariant.3 (sym (rw at-end at c.tasks.invariant.1))
-
 
 pub returns-then-l-load : goal.returns-then-l-load
 returns-then-l-load c =
@@ -139,4 +122,3 @@ returns-then-l-load c =
     let found = lowest-found (λ j. not (passes t j)) k c.tasks.invariant.1 (fails-reached t (suc k) reached) in
     c.quick_judged-answer-then-l-load.ensures ∙ quick_is c.tasks.invariant.3 (sym (rw (add-one k)
     (lowest-stays (λ j. not (passes t j)) (suc k) t.n k (omega arith) (rw (add-one k) at found))))
-

@@ -1,6 +1,5 @@
 use Rattle.maths.proofs.Widths.{fits_mul}
 use Rattle.admission.proofs.Bounds.{weight-le, interference-le}
-use borrow.Author.Rules.{rules}
 use Rattle.admission.proofs.term.Goals as goal
 
 pub overflow_mul-result : goal.overflow_mul-result
@@ -9,7 +8,5 @@ overflow_mul-result c =
     rw (c.weighs-w.ensures, c.interferes.ensures)
     (fits_mul 1024 4294967295 tt (weight-le row c.requires.0 c.requires.1) (interference-le row c.requires.2))
 
-
 pub returns : goal.returns
 returns c = rw (c.weighs-w.ensures, c.interferes.ensures)
-

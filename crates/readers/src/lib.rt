@@ -1,5 +1,6 @@
 // Readers of document 01's texts. Each reads as far as a good text could go, and says where that is.
 #![tactic(auto)]
+
 ghost use Rattle.std.specs.Prelude.{◌+◌, ◌*◌, ◌<◌, ◌≤◌, ◌≡◌, false, [], leb, length};
 ghost use Rattle.forms.specs.Forms.{ending, platform_form, tasks_form, ticks_form};
 ghost use Rattle.forms.specs.Reads.{refused};

@@ -1,12 +1,8 @@
 -- The loop's invariant: the number goes on from what has come of it.
 use borrow.Author.Rules.{rules}
-use Prim.Native.Nat.{◌≤◌, ◌-◌}
 use mathlib.Core.Path.{◌≡◌, sym, ◌∙◌}
-use mathlib.Core.Option.{some}
 use native.Mathlib.Omega.{arith}
 use borrow.Author.Tests.{not-true, not-false}
-use lib.ListN.{length, drop}
-use Rattle.readers.specs.Places.{number_from, number_at}
 use Rattle.readers.proofs.Places.{number_short, number-not, number-first, number-end, number-zero, number-stop}
 use Rattle.readers.proofs.Places.{number_more}
 use Rattle.readers.proofs.number_at.Goals as goal
@@ -14,13 +10,11 @@ use Rattle.readers.proofs.number_at.Goals as goal
 pub returns-then-s-at : goal.returns-then-s-at
 returns-then-s-at c = sym (number_short _ _ _ c.if-s-at.true)
 
-
 pub returns-then-not-first : goal.returns-then-not-first
 returns-then-not-first c =
     let args = c.args in
     sym (number-not args.most args.s.now args.at (omega arith) _ c.with_digit-first.ensures
     (not-true _ c.if-not-first.true))
-
 
 pub loop-next-init : goal.loop-next-init
 loop-next-init c =
@@ -30,20 +24,17 @@ loop-next-init c =
           (not-false _ c.if-not-first.false),
     )
 
-
 pub returns-then-v-eq0 : goal.returns-then-v-eq0
 returns-then-v-eq0 c =
     let args = c.args in
     let e : c.loop-next.v ≡ 0 = c.if-v-eq0.true in
     sym (c.loop-next.invariant.1 ∙ rw e (number-zero args.most args.s.now c.loop-next.next (omega arith)))
 
-
 pub returns-then-not-more : goal.returns-then-not-more
 returns-then-not-more c =
     let args = c.args in
     sym (c.loop-next.invariant.1 ∙ number-stop args.most args.s.now c.loop-next.next (omega arith) c.loop-next.v
     (omega arith) _ c.with_digit-more.ensures (not-true _ c.if-not-more.true))
-
 
 pub loop-next-preserved : goal.loop-next-preserved
 loop-next-preserved c =
@@ -53,9 +44,7 @@ loop-next-preserved c =
           (omega arith) _ c.with_digit-more.ensures (not-false _ c.if-not-more.false),
     )
 
-
 pub returns : goal.returns
 returns c =
     let args = c.args in
     sym (c.loop-next.invariant.1 ∙ number-end args.most args.s.now c.loop-next.next c.loop-next.v (omega arith))
-

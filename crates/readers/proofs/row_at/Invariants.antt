@@ -1,15 +1,10 @@
 -- The loop's invariant: the row goes on from the numbers that have come.
-use borrow.Author.Rules.{rules}
 use Prim.Native.Nat.{◌≤◌, ◌-◌}
-use mathlib.Core.Path.{◌≡◌, refl, sym, ◌∙◌}
+use mathlib.Core.Path.{◌≡◌}
 use mathlib.Core.List.{[]}
-use native.Mathlib.Omega.{arith}
-use borrow.Author.Tests.{not-true, not-false}
 use lib.ListN.{length, take, drop}
 use Rattle.maths.specs.Padded.{padded}
-use Rattle.maths.proofs.Padded.{filled, filled-take}
 use Rattle.readers.specs.Places.{most_columns, row_from}
-use Rattle.readers.proofs.Rows.{cell-inside, row_more, row-stop, row-end}
 use Rattle.readers.proofs.row_at.Given as goal
 
 abbrev pub invariant-loop-j : goal.invariant-loop-j
@@ -19,7 +14,5 @@ invariant-loop-j l =
     × (padded most_columns 0 (take l.j l.numbers) ≡ l.numbers)
     × (row_from l.s [] l.columns l.at ≡ row_from l.s (take l.j l.numbers) (drop l.j l.columns) l.next)
 
-
 abbrev pub decreases-loop-j : goal.decreases-loop-j
 decreases-loop-j l = length l.columns - l.j
-

@@ -1,7 +1,7 @@
 -- Laws of the listing of margins, for the loop over its rows.
 use Prim.Native.Nat.{ℕ, suc, ◌+◌, ◌<◌, ◌≤◌, min}
-use mathlib.Core.Path.{◌≡◌, refl, sym, ap, ◌∙◌}
-use mathlib.Core.List.{List, [], ◌∷◌, ◌++◌, append_assoc}
+use mathlib.Core.Path.{◌≡◌, refl}
+use mathlib.Core.List.{List, [], ◌++◌}
 use native.Mathlib.Numerals.{add-one}
 use native.Mathlib.Omega.{arith}
 use native.Mathlib.Decide.{dec_le}
@@ -10,7 +10,6 @@ use lib.ListN.{length, take, drop, get_or, length-take, drop_of_length-le}
 use lib.Seq.{take_all}
 use Rattle.maths.proofs.Lists.{front}
 use Rattle.forms.specs.Bytes.{bytes}
-use Rattle.forms.specs.Forms.{crlf}
 use Rattle.writers.specs.Signed.{margin_of, margin_row}
 use Rattle.writers.specs.Outputs.{margin_lines, margins_text}
 

@@ -1,15 +1,15 @@
 -- Laws of bytes put into a buffer one after the other, and of a number's digits put from the right.
 use Prim.Native.Nat.{ℕ, zero, suc, ◌+◌, ◌-◌, ◌/◌, ◌%◌, ◌^◌, ◌<◌, ◌≤◌}
 use mathlib.Core.Path.{◌≡◌, refl, sym, ap, ◌∙◌}
-use mathlib.Core.List.{List, [], ◌∷◌, ◌++◌, append_assoc, append-nil}
+use mathlib.Core.List.{List, [], ◌∷◌, ◌++◌, append-nil}
 use native.Mathlib.Numerals.{add-one}
 use native.Mathlib.Omega.{arith}
 use native.Mathlib.Decide.{dec_lt}
 use native.Mathlib.Nat.{le_of_suc-le-suc, zero-add, lt_of_lt_of_le}
 use lib.Dec.{lit≤}
-use lib.ListN.{length, take, drop, set, get_or, length-append, length-take, length-set, drop_of_length-le}
-use lib.Seq.{sets, sets-eq, length-sets, drop-cons, append_snoc}
-use Rattle.forms.specs.Digits.{digit, digits}
+use lib.ListN.{length, take, drop, set, get_or, length-take, length-set, drop_of_length-le}
+use lib.Seq.{sets, sets-eq, drop-cons, append_snoc}
+use Rattle.forms.specs.Digits.{digits}
 use Rattle.forms.proofs.Digits.{one-digit, split-digit, width_one, width_more, width_some, width_most}
 
 -- one text behind another

@@ -1,19 +1,18 @@
 -- Laws of a row's text, for the loop over its columns.
 use Prim.Native.Nat.{ℕ, suc, ◌+◌, ◌-◌, ◌<◌, ◌≤◌}
-use mathlib.Core.Path.{◌≡◌, refl, sym, ap, ◌∙◌}
+use mathlib.Core.Path.{◌≡◌, sym, ap, ◌∙◌}
 use mathlib.Core.Bool.{true, false}
-use mathlib.Core.List.{List, [], ◌∷◌, ◌++◌, append_assoc}
+use mathlib.Core.List.{List, [], ◌++◌, append_assoc}
 use native.Mathlib.Numerals.{add-one}
 use native.Mathlib.Omega.{arith}
 use lib.ListN.{length, drop, get_or, length-append, length-drop, drop_of_length-le}
 use lib.Seq.{drop-cons}
-use Rattle.forms.specs.Bytes.{comma}
 use Rattle.forms.specs.Digits.{digits}
 use Rattle.forms.specs.Forms.{ending, line}
 use Rattle.forms.proofs.Lines.{ending-more}
 use Rattle.writers.specs.declared.Room.{Room}
 use Rattle.writers.specs.Written.{room_for}
-use Rattle.writers.proofs.Rooms.{room-more, room-stop, room-none}
+use Rattle.writers.proofs.Rooms.{room-more, room-stop}
 
 pub cell-last : (n left : ℕ) → left ≡ 0 → length (digits n ++ ending left) ≡ length (digits n) + 2
 cell-last n left e = length-append (digits n) (ending left) ∙ rw e

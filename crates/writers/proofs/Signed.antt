@@ -1,5 +1,5 @@
 -- The sign and the size of a signed 64-bit number.
-use Prim.Native.Nat.{ℕ, zero, suc, ◌-◌, ◌^◌, ◌<◌}
+use Prim.Native.Nat.{ℕ, zero, suc, ◌^◌, ◌<◌}
 use mathlib.Core.Path.{◌≡◌, refl, sym, ap, ◌∙◌}
 use mathlib.Core.Bool.{Bool, true, false}
 use native.Mathlib.Omega.{arith}
@@ -9,7 +9,6 @@ use lib.Signed.{lt_z}
 use mir.Syntax.{w64}
 use mir.Val.{SFits, to_z, of_z}
 use mir.Facts.{to_z-of_z}
-use Rattle.writers.specs.declared.Margin.{Margin}
 use Rattle.writers.specs.Signed.{margin_of}
 
 below : ℤ → Bool

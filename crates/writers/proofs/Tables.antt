@@ -1,14 +1,13 @@
 -- Laws of a table's text, for the loop over its rows.
-use Prim.Native.Nat.{ℕ, suc, ◌+◌, ◌<◌, ◌≤◌, min}
-use mathlib.Core.Path.{◌≡◌, refl, sym, ap, ◌∙◌}
-use mathlib.Core.List.{List, [], ◌∷◌, ◌++◌, map, append_assoc}
+use Prim.Native.Nat.{ℕ, ◌+◌, ◌<◌, ◌≤◌, min}
+use mathlib.Core.Path.{◌≡◌, sym, ◌∙◌}
+use mathlib.Core.List.{List, [], ◌++◌, map}
 use native.Mathlib.Omega.{arith}
 use native.Mathlib.Decide.{dec_le}
 use lib.ListN.{length, take, drop, get_or, length-take, drop_of_length-le}
 use lib.Seq.{take_all}
 use Rattle.maths.proofs.Lists.{front}
 use Rattle.forms.specs.Forms.{tasks_form, crlf, line, lines, text}
-use Rattle.table.specs.declared.Task.{Task}
 use Rattle.table.specs.declared.Table.{Table}
 use Rattle.table.specs.Limits.{most_tasks}
 use Rattle.table.specs.Tasks.{no_task}

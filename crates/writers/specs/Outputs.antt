@@ -3,7 +3,7 @@
 use Rattle.std.specs.Prelude.{ℕ, suc, List, [], ◌∷◌, ◌++◌, map, ℤ, take}
 use Prim.Native.String.{String}
 use Rattle.forms.specs.Bytes.{bytes}
-use Rattle.forms.specs.Forms.{Form, crlf, lines, text, platform_form, tasks_form, ticks_form}
+use Rattle.forms.specs.Forms.{crlf, lines, text, platform_form, tasks_form, ticks_form}
 use Rattle.table.specs.declared.Platform.{Platform}
 use Rattle.table.specs.declared.Task.{Task}
 use Rattle.table.specs.declared.Table.{Table}

@@ -1,6 +1,7 @@
 // Writers of document 01's texts into buffers that the caller lends. A text is measured first; where it does not fit,
 // nothing is changed.
 #![tactic(auto)]
+
 ghost use Rattle.std.specs.Prelude.{◌+◌, ◌≤◌, min, ◌≡◌, [], ◌∷◌, ◌++◌, length, take};
 ghost use Rattle.forms.specs.Digits.{digits};
 ghost use Rattle.forms.specs.Forms.{ending, line};

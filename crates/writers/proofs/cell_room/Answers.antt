@@ -1,8 +1,8 @@
 use borrow.Author.Rules.{rules}
-use Prim.Native.Nat.{◌<◌, ◌^◌}
-use mathlib.Core.Path.{◌≡◌, sym, ap, ◌∙◌}
+use Prim.Native.Nat.{ℕ, ◌+◌, ◌<◌, ◌^◌}
+use mathlib.Core.Path.{◌≡◌, sym}
 use mathlib.Core.List.{◌++◌}
-use mathlib.Core.Logic.{⊎_elim}
+use mathlib.Core.Logic.{◌⊎◌, inl, inr}
 use native.Mathlib.Omega.{arith}
 use lib.ListN.{length}
 use Rattle.forms.specs.Digits.{digits}
@@ -12,17 +12,11 @@ use Rattle.writers.proofs.Rows.{cell-last, cell_inner}
 use Rattle.writers.proofs.Rooms.{room-enough, room-short}
 use Rattle.writers.proofs.cell_room.Goals as goal
 
--- ?? Joined1
-size_is : (c : tie.Joined1)
-    → c.if1.size ≡ length (digits c.before.before.args.n ++ ending c.before.before.args.left)
-size_is c =
-    let args = c.before.before.args in
-    let w = c.before.width.ensures in
-    ⊎_elim
-    (λ t. let e = cell-last args.n args.left t.0.taken in let f = t.1 in omega arith)
-    (λ t. let e = cell_inner args.n args.left t.0.left in let f = t.1 in omega arith)
-    c.if1.branch
-
+-- the size of the cell, by whether it is the last
+size_is : (n left w size : ℕ) → w ≡ length (digits n) → (left ≡ 0) ⊎ (left ≡ 0 → ⊥) → (left ≡ 0 → size ≡ w + 2)
+    → ((left ≡ 0 → ⊥) → size ≡ w + 1) → size ≡ length (digits n ++ ending left)
+size_is n left w size e (inl z) last inner = let f = cell-last n left z in let g = last z in omega arith
+size_is n left w size e (inr z) last inner = let f = cell_inner n left z in let g = inner z in omega arith
 
 pub overflow_add-size : goal.overflow_add-size
 overflow_add-size c =
@@ -31,7 +25,6 @@ overflow_add-size c =
     let w = c.width-size.ensures in
     omega (arith, width_room n fits)
 
-
 pub overflow_add-size-then-left-eq0 : goal.overflow_add-size-then-left-eq0
 overflow_add-size-then-left-eq0 c =
     let n = c.args.n in
@@ -39,17 +32,18 @@ overflow_add-size-then-left-eq0 c =
     let w = c.width-size.ensures in
     omega (arith, width_room n fits)
 
-
 pub returns-then-room-size : goal.returns-then-room-size
 returns-then-room-size c =
-    let size = size_is c in
+    let n = c.args.n in let left = c.args.left in
+    let size : c.if-left-eq0.size ≡ length (digits n ++ ending left) =
+    size_is n left c.width-size.result c.if-left-eq0.size c.width-size.ensures (search rules) (search rules) (search rules) in
     sym (room-short _ _ (omega arith))
-
 
 pub returns : goal.returns
 returns c =
-    let size = size_is c in
+    let n = c.args.n in let left = c.args.left in
+    let size : c.if-left-eq0.size ≡ length (digits n ++ ending left) =
+    size_is n left c.width-size.result c.if-left-eq0.size c.width-size.ensures (search rules) (search rules) (search rules) in
     let args = c.args in
     let text = digits args.n ++ ending args.left in
     rw size (sym (room-enough text args.room (omega arith)))
-

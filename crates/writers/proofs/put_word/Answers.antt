@@ -1,17 +1,12 @@
 -- The loop's invariant: what is left of the word makes of the buffer what the whole word was to make of it.
--- The loop's invariant: what is left of the word makes of the buffer what the whole word was to make of it.
-use borrow.Author.Rules.{rules}
-use Prim.Native.Nat.{◌+◌, ◌-◌, ◌≤◌}
-use mathlib.Core.Path.{◌≡◌, refl, sym, ◌∙◌}
+use mathlib.Core.Path.{refl, sym, ◌∙◌}
 use native.Mathlib.Omega.{arith}
-use lib.ListN.{length, drop, length-set}
-use lib.Seq.{sets}
+use lib.ListN.{length-set}
 use Rattle.writers.proofs.Puts.{word_more, word_end}
 use Rattle.writers.proofs.put_word.Goals as goal
 
 pub loop-i-init : goal.loop-i-init
 loop-i-init c = (omega arith, omega arith, refl, refl)
-
 
 pub loop-i-preserved : goal.loop-i-preserved
 loop-i-preserved c =
@@ -22,7 +17,6 @@ loop-i-preserved c =
       word_more c.loop-i.buf c.loop-i.next word c.loop-i.i c.loop-i-test.true ∙ c.loop-i.invariant.3,
     )
 
-
 pub returns : goal.returns
 returns c =
     let word = c.args.word.now in
@@ -30,4 +24,3 @@ returns c =
       behind = omega arith;
       holds = sym (word_end c.loop-i.buf c.loop-i.next word c.loop-i.i (omega arith)) ∙ c.loop-i.invariant.3;
     }
-

@@ -1,11 +1,7 @@
 -- The loop's invariant: the digits counted, and those that are left.
--- The loop's invariant: the digits counted, and those that are left.
 use borrow.Author.Rules.{rules}
-use Prim.Native.Nat.{◌+◌, ◌≤◌, ◌<◌, ◌^◌, suc}
+use Prim.Native.Nat.{◌<◌, ◌^◌}
 use native.Mathlib.Omega.{arith}
-use mathlib.Core.Path.{◌≡◌, refl}
-use lib.ListN.{length}
-use Rattle.forms.specs.Digits.{digits}
 use Rattle.forms.proofs.Digits.{width_one, width_more, width_some}
 use Rattle.writers.proofs.Puts.{width_room}
 use Rattle.writers.proofs.width.Goals as goal
@@ -13,22 +9,17 @@ use Rattle.writers.proofs.width.Goals as goal
 pub loop-rest-init : goal.loop-rest-init
 loop-rest-init c = (omega arith, omega arith)
 
-
 pub overflow_add-w : goal.overflow_add-w
 overflow_add-w c =
     let n = c.args.n in
     let fits : n < 2 ^ 64 = search rules in
     omega (arith, width_room n fits, width_some c.loop-rest.rest)
 
-
 pub loop-rest-smaller : goal.loop-rest-smaller
 loop-rest-smaller c = omega arith
-
 
 pub loop-rest-preserved : goal.loop-rest-preserved
 loop-rest-preserved c = (omega (arith, width_more c.loop-rest.rest c.loop-rest-test.true), omega arith)
 
-
 pub returns : goal.returns
 returns c = omega (arith, width_one c.loop-rest.rest c.loop-rest-test.false)
-

@@ -1,4 +1,3 @@
-use borrow.Author.Rules.{rules}
 use Rattle.writers.proofs.Wholes.{one-listing}
 use Rattle.writers.proofs.write_refused.Goals as goal
 
@@ -6,4 +5,3 @@ pub returns : goal.returns
 returns c =
     let numbers = c.refused_numbers-numbers.ensures in
     rw (one-listing "refused,row") (rw numbers at c.write_one.ensures)
-

@@ -1,4 +1,3 @@
-use borrow.Author.Rules.{rules}
 use borrow.Author.Tests.{not-true, not-false}
 use Rattle.writers.proofs.Wholes.{wrote_short, wrote_put, fits-is, long-is}
 use Rattle.writers.proofs.write_tasks.Goals as goal
@@ -7,14 +6,11 @@ pub returns-then-not-m : goal.returns-then-not-m
 returns-then-not-m c = wrote_short _ _ _ c.short.ensures
     (long-is _ _ _ c.tasks_room-m.ensures (not-true _ c.if-not-m.true))
 
-
 pub put_tasks-end-requires : goal.put_tasks-end-requires
 put_tasks-end-requires c =
     fits-is _ _ _ c.tasks_room-m.ensures (not-false _ c.if-not-m.false)
-
 
 pub returns : goal.returns
 returns c =
     wrote_put _ _ _ _ _ c.whole.ensures (fits-is _ _ _ c.tasks_room-m.ensures
     (not-false _ c.if-not-m.false)) c.put_tasks-end.ensures
-

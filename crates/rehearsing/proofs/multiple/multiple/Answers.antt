@@ -1,5 +1,6 @@
 -- The loop's invariant: what is had so far is the multiple of the periods passed, and within the limit. Where that of
 -- some of the periods is above the limit, so is that of all of them, which it divides.
+-- x, or 0 where it is above the limit
 use Prim.Native.Nat.{ℕ, suc, ◌+◌, ◌-◌, ◌<◌, ◌≤◌}
 use mathlib.Core.Path.{◌≡◌, sym, ◌∙◌}
 use mathlib.Core.Bool.{cond}
@@ -20,12 +21,11 @@ use Rattle.multiples.specs.Gcd.{lcm}
 use Rattle.multiples.proofs.Within.{is_within, is-above, was-within, was-above}
 use Rattle.rehearsal.specs.Multiple.{multiple_to, multiple, most_multiple}
 use Rattle.rehearsal.proofs.Multiple.{multiple_to-zero, multiple_to-more, multiple_to-pos, multiple_to-le}
-use Rattle.rehearsing.proofs.multiple.multiple.Statement.{statement}
-use Rattle.rehearsing.proofs.multiple.multiple.Tie as tie
+use Rattle.rehearsing.proofs.multiple.multiple.Goals as goal
 
--- x, or 0 where it is above the limit
 abbrev limited : ℕ → ℕ
 limited x = cond (leb x most_multiple) x 0
+
 
 -- one turn, on so far the multiple of the first i periods
 module _ {t : Table} {so_far r : ℕ} (g : Good t) (i : ℕ) (at : so_far ≡ multiple_to t i)
@@ -45,64 +45,32 @@ module _ {t : Table} {so_far r : ℕ} (g : Good t) (i : ℕ) (at : so_far ≡ mu
       was-above _ most_multiple (multiple_to-pos g (suc i) l) (sym next ∙ none) in
       is-above (multiple t) most_multiple (omega (arith, multiple_to-le g (suc i) l))
 
-abbrev invariant-loop : tie.invariant-loop
-invariant-loop t n so-far₀ i₀ so_far i = Good t × (i ≤ n) × (so_far ≡ multiple_to t i) × (so_far ≤ most_multiple)
 
-abbrev decreases-loop : tie.decreases-loop
-decreases-loop t n so-far₀ i₀ so_far i = n - i
-
-loop-holds : tie.Need-loop-init invariant-loop decreases-loop
-loop-holds c =
-    let t = c.args.t1 in
+pub loop-i-init : goal.loop-i-init
+loop-i-init c =
+    let t = c.args.t in
     let len : length t.rows ≡ most_tasks = search (len_mapped, rules) in
     (good_of t len (eqb-true (refusal t).number 0 c.requires), search rules, sym (multiple_to-zero t), search rules)
 
-mul-lcm-within : tie.Need-overflow-mul-lcm-within invariant-loop decreases-loop
-mul-lcm-within c = search rules
 
-element-copy-out-lcm-within : tie.Need-element-copy-out-lcm-within invariant-loop decreases-loop
-element-copy-out-lcm-within c = search rules
+pub returns-then-so_far-eq0 : goal.returns-then-so_far-eq0
+returns-then-so_far-eq0 c =
+    let l = c.loop-i in
+    sym (stops l.invariant.0 l.i l.invariant.2 c.lcm_within-so_far.ensures (search rules) c.if-so_far-eq0.true)
 
-lcm-within-requires : tie.Need-lcm-within-requires invariant-loop decreases-loop
-lcm-within-requires c κs = search rules
 
-returns : tie.Need-returns invariant-loop decreases-loop
-returns c =
-    let l = c.before.before.before.loop in
-    sym (stops l.invariant.0 l.i l.invariant.2 c.before.lcm-within.ensures (search rules) c.if1.true)
-
-add-i : tie.Need-overflow-add-i invariant-loop decreases-loop
-add-i c = search rules
-
-loop-less : tie.Need-loop-smaller invariant-loop decreases-loop
-loop-less c = search rules
-
-loop-again : tie.Need-loop-preserved invariant-loop decreases-loop
-loop-again c =
-    let l = c.before.before.before.loop in
-    let on = goes_on_lem l.invariant.0 l.i l.invariant.2 c.before.lcm-within.ensures c.if1.false in
+pub loop-i-preserved : goal.loop-i-preserved
+loop-i-preserved c =
+    let l = c.loop-i in
+    let on = goes_on_lem l.invariant.0 l.i l.invariant.2 c.lcm_within-so_far.ensures c.if-so_far-eq0.false in
     (l.invariant.0, search rules, on.0, on.1)
 
-returns-2 : tie.Need-returns-2 invariant-loop decreases-loop
-returns-2 c =
-    let t = c.before.before.args.t1 in
-    let l = c.before.loop in
+
+pub returns : goal.returns
+returns c =
+    let t = c.args.t in
+    let l = c.loop-i in
     let at-end : l.i ≡ t.n = omega arith in
     let all : l.so_far ≡ multiple t = rw at-end at l.invariant.2 in
     all ∙ sym (is_within (multiple t) most_multiple (omega arith))
 
-pub multiple-spec : {M : Type 1} → statement M
-multiple-spec =
-    tie.close
-    (tie.spec
-    invariant-loop
-    decreases-loop
-    loop-holds
-    mul-lcm-within
-    element-copy-out-lcm-within
-    lcm-within-requires
-    returns
-    add-i
-    loop-less
-    loop-again
-    returns-2)

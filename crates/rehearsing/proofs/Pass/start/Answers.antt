@@ -1,0 +1,6 @@
+use borrow.Author.Rules.{rules}
+use Rattle.rehearsing.proofs.Pass.start.Goals as goal
+
+pub returns : goal.returns
+returns c = rw c.first-lane.ensures
+

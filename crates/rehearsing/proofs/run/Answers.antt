@@ -16,18 +16,14 @@ use Rattle.rehearsing.proofs.AfterFirst.{ends_now, not_last}
 use Rattle.rehearsing.proofs.SecondPass.{Starting, starting_none, starting_more, starting_by, starting_turn}
 use Rattle.rehearsing.proofs.NextEvent.{next-later, next_event}
 use Rattle.rehearsing.proofs.run.Goals as goal
-
--- ?? Start
--- an array of the board's has its 32 entries
-taken : (c : tie.Start invariant-loop2 decreases-loop2 invariant-loop3 decreases-loop3 invariant-loop decreases-loop) → Unrefused c.args.t1
-taken c = record { whole = search (len_mapped, rules); unrefused = eqb-true _ 0 c.requires.0 }
-
+use Rattle.rehearsing.proofs.run.Goals.{then-not-rests, else-not-rests, then-tries, else-tries}
 
 pub loop-pass-init : goal.loop-pass-init
 loop-pass-init c =
-    let good = good_of c.args.t (taken c).whole (taken c).unrefused in (
+    let taken : Unrefused c.args.t = record { whole = search (len_mapped, rules); unrefused = eqb-true _ 0 c.requires.0 } in
+    let good = good_of c.args.t taken.whole taken.unrefused in (
       good.sizes.few,
-      rehearsing_none c.args.t (taken c) c.args.l _ _ c.requires.1 c.requires.2
+      rehearsing_none c.args.t taken c.args.l _ _ c.requires.1 c.requires.2
           (ap (replicate most_tasks) c.first-lanes.ensures) c.start-pass.ensures,
     )
 
@@ -37,44 +33,22 @@ loop-k-init c =
     (c.loop-pass.invariant.0, judging_none c.loop-pass.invariant.1)
 
 
-array-copy-out-rests :
-    tie.Need-array-copy-out-rests invariant-loop2 decreases-loop2 invariant-loop3 decreases-loop3 invariant-loop decreases-loop
-array-copy-out-rests c = search rules
-
-
-element-copy-out-settle :
-    tie.Need-element-copy-out-settle invariant-loop2 decreases-loop2 invariant-loop3 decreases-loop3 invariant-loop decreases-loop
-element-copy-out-settle c = search rules
-
-
-array-copy-out-settle :
-    tie.Need-array-copy-out-settle invariant-loop2 decreases-loop2 invariant-loop3 decreases-loop3 invariant-loop decreases-loop
-array-copy-out-settle c = search rules
-
-
 pub settle-pass-requires : goal.settle-pass-requires
 settle-pass-requires c =
     let l = c.loop-k.invariant in
     judging_turn l.1 (search rules)
 
 
-array-set-from-lanes :
-    tie.Need-array-set-from-lanes invariant-loop2 decreases-loop2 invariant-loop3 decreases-loop3 invariant-loop decreases-loop
-array-set-from-lanes c = search rules
-
-
 pub loop-k-preserved : goal.loop-k-preserved
 loop-k-preserved c =
     let l = c.loop-k.invariant in
     let test = c.loop-k-test.true in
-    ⊎_elim
-    (λ w. (l.0, rw (w.5, w.6) (judging_more l.1 test w.3.result w.3.ensures)))
-    (λ w. (
-      l.0,
-      rw (w.1, w.2) (judging_rests l.1 test
-          (sym c.rests.ensures ∙ not-false _ w.0.left)),
-    ))
-    c.if-not-rests.branch
+    elim c.if-not-rests.branch [
+      then-not-rests w ↦
+        (l.0, rw (w.lanes-is, w.pass-is) (judging_more l.1 test w.settle-pass.result w.settle-pass.ensures))
+    | else-not-rests w ↦
+        (l.0, rw (w.lanes-is, w.pass-is) (judging_rests l.1 test (sym c.rests.ensures ∙ w.if-not-rests.false)))
+    ]
 
 
 pub returns-then-ends : goal.returns-then-ends
@@ -93,44 +67,23 @@ loop-j-init c =
     (l.0, starting_none l.1 test on.0 on.1 c.opened-pass.result c.opened-pass.ensures)
 
 
-array-copy-out-tries :
-    tie.Need-array-copy-out-tries invariant-loop2 decreases-loop2 invariant-loop3 decreases-loop3 invariant-loop decreases-loop
-array-copy-out-tries c = search rules
-
-
-element-copy-out-begin :
-    tie.Need-element-copy-out-begin invariant-loop2 decreases-loop2 invariant-loop3 decreases-loop3 invariant-loop decreases-loop
-element-copy-out-begin c = search rules
-
-
-array-copy-out-begin :
-    tie.Need-array-copy-out-begin invariant-loop2 decreases-loop2 invariant-loop3 decreases-loop3 invariant-loop decreases-loop
-array-copy-out-begin c = search rules
-
-
 pub begin-pass-requires : goal.begin-pass-requires
 begin-pass-requires c =
     let l = c.loop-j.invariant in
     starting_turn l.1 (search rules)
 
 
-array-set-from-lanes-2 :
-    tie.Need-array-set-from-lanes-2 invariant-loop2 decreases-loop2 invariant-loop3 decreases-loop3 invariant-loop decreases-loop
-array-set-from-lanes-2 c = search rules
-
-
 pub loop-j-preserved : goal.loop-j-preserved
 loop-j-preserved c =
     let l = c.loop-j.invariant in
     let test = c.loop-j-test.true in
-    ⊎_elim
-    (λ w. (l.0, rw (w.5, w.6) (starting_more l.1 test w.3.result w.3.ensures)))
-    (λ w. (
-      l.0,
-      rw (w.3, w.4) (starting_by l.1 test w.2.result w.2.ensures
-          (sym c.tries.ensures ∙ w.0.left)),
-    ))
-    c.if-tries.branch
+    elim c.if-tries.branch [
+      then-tries w ↦
+        (l.0, rw (w.lanes-is, w.pass-is) (starting_more l.1 test w.begin-pass.result w.begin-pass.ensures))
+    | else-tries w ↦
+        (l.0, rw (w.lanes-is, w.pass-is) (starting_by l.1 test w.by-pass.result w.by-pass.ensures
+          (sym c.tries.ensures ∙ w.if-tries.false)))
+    ]
 
 
 pub loop-pass-smaller : goal.loop-pass-smaller

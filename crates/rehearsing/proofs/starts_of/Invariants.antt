@@ -9,7 +9,7 @@ use Rattle.rehearsing.proofs.starts_of.Given as goal
 
 abbrev pub invariant-loop-k : goal.invariant-loop-k
 invariant-loop-k l =
-    (l.k ≤ most_tasks) × (l.started ≡ up_to most_tasks (λ j. (entry l.lanes j no_lane).l.started) (λ j. 0) l.k)
+    (l.k ≤ most_tasks) × (l.started ≡ up_to most_tasks (λ j. (entry l.lanes j no_lane).started) (λ j. 0) l.k)
 
 
 abbrev pub decreases-loop-k : goal.decreases-loop-k

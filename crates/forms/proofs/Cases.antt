@@ -4,7 +4,6 @@ use Prim.Native.String.{String}
 use mathlib.Core.Path.{◌≡◌, refl}
 use mathlib.Core.List.{List, [], ◌∷◌, map}
 use Rattle.forms.specs.Bytes.{bytes}
-use Rattle.forms.specs.Digits.{digits, digits_in}
 use Rattle.forms.specs.Forms.{Form, platform_form, tasks_form, ticks_form}
 use Rattle.forms.specs.Reads.{Answer, found, refused}
 use Rattle.forms.specs.Reader.{run, grow, step, rows_at, read}

@@ -12,8 +12,8 @@ use lib.ListN.{length, length-append}
 use Rattle.forms.specs.Digits.{digit, digits}
 use Rattle.forms.specs.Forms
 use Rattle.forms.specs.Forms.{Form, columns, Within, EachRow, GoodRows, crlf, ending, line, lines, text}
-use Rattle.forms.specs.Reads.{Answer, found, refused, Begins}
-use Rattle.forms.specs.Reader.{run, grow, State, word, cell, may_begin, may_end, step, rows_at, start, read}
+use Rattle.forms.specs.Reads.{found, refused, Begins}
+use Rattle.forms.specs.Reader.{run, grow, State, word, cell, may_begin, may_end, step, rows_at, read}
 use Rattle.forms.proofs.Digits.{one-digit, add_digit}
 use Rattle.forms.proofs.Grow.{grow_first, grow-more}
 use Rattle.forms.proofs.Runs.{Takes, found-on}

@@ -9,7 +9,7 @@ use lib.Dec.{eqb}
 use Rattle.forms.specs.Bytes.{comma, cr}
 use Rattle.forms.specs.Forms.{Form}
 use Rattle.forms.specs.Reads.{Answer, found, refused}
-use Rattle.forms.specs.Reader.{run, later, ended, keep, grow, State, word, cell, leave, inside, may_begin, may_end}
+use Rattle.forms.specs.Reader.{run, later, ended, keep, grow, State, word, cell, leave, inside}
 use Rattle.forms.specs.Reader.{step, rows_at}
 use Rattle.forms.proofs.Runs.{stuck, moves}
 

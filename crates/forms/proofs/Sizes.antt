@@ -2,12 +2,12 @@
 -- zeros.
 use Prim.Native.Nat.{ℕ, zero, suc, ◌+◌, ◌*◌, ◌/◌, ◌<◌, ◌≤◌}
 use mathlib.Core.Path.{◌≡◌, ap}
-use mathlib.Core.List.{List, [], ◌∷◌, ◌++◌}
+use mathlib.Core.List.{List, [], ◌∷◌}
 use native.Mathlib.Omega.{arith}
 use native.Mathlib.Decide.{dec_lt}
 use lib.ListN.{length, get_or, length-append}
 use Rattle.forms.specs.Digits.{digits}
-use Rattle.forms.specs.Forms.{Form, columns, Within, EachRow, none, also, crlf, ending, line, lines, text}
+use Rattle.forms.specs.Forms.{Form, columns, Within, EachRow, none, also, ending, line, lines, text}
 use Rattle.forms.proofs.Digits.{width_one, width_more, width_some}
 
 -- a larger number has no fewer digits

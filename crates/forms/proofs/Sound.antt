@@ -1,7 +1,7 @@
 -- What a reader of a form reads to the end is the good text of the rows that it answers: in each state, the bytes that
 -- have come are the beginning of a good text that the state says they are.
 use Prim.Native.Nat.{ℕ, ◌<◌, ◌≤◌, zero-le}
-use mathlib.Core.Path.{◌≡◌, refl, sym, ap, ◌∙◌}
+use mathlib.Core.Path.{◌≡◌, refl, sym, ◌∙◌}
 use mathlib.Core.Bool.{Bool, true, false, cond}
 use mathlib.Core.List.{List, [], ◌∷◌, ◌++◌, append_assoc, append-nil}
 use mathlib.Core.Option.{Option, none, some}

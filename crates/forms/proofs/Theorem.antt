@@ -1,18 +1,16 @@
 -- For every form and every list of bytes: the reader reads rightly, and nothing else is to read rightly.
-use Prim.Native.Nat.{ℕ, ◌≤◌, ◌<◌}
+use Prim.Native.Nat.{ℕ, ◌<◌}
 use mathlib.Core.Path.{◌≡◌, refl, sym, ap, ◌∙◌}
-use mathlib.Core.List.{List, [], ◌∷◌, ◌++◌}
-use mathlib.Core.Option.{Option, none, some}
+use mathlib.Core.List.{List, []}
 use native.Mathlib.Omega.{arith}
 use native.Mathlib.Decide.{dec_lt}
-use Rattle.forms.specs.Forms
-use Rattle.forms.specs.Forms.{Form, GoodRows, text, GoodText, crlf, lines}
-use Rattle.forms.specs.Reads.{Answer, found, refused, Begins, Longest, NoText, Reads}
-use Rattle.forms.specs.Reader.{run, step, rows_at, start, read}
+use Rattle.forms.specs.Forms.{Form, GoodRows, text, GoodText}
+use Rattle.forms.specs.Reads.{Answer, found, refused, Longest, Reads}
+use Rattle.forms.specs.Reader.{step, rows_at, start, read}
 use Rattle.forms.specs.Rightly.{ReadsRightly}
-use Rattle.forms.proofs.Runs.{Takes, Told, told}
+use Rattle.forms.proofs.Runs.{told}
 use Rattle.forms.proofs.Complete.{complete, live}
-use Rattle.forms.proofs.Sound.{Right, sound, at-start}
+use Rattle.forms.proofs.Sound.{sound, at-start}
 
 same-longest : {Is Was : List ℕ → Type 0} {bytes : List ℕ} {k : ℕ} → ((b : List ℕ) → Is b → Was b)
     → ((b : List ℕ) → Was b → Is b) → Longest Is bytes k → Longest Was bytes k

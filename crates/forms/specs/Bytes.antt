@@ -1,6 +1,6 @@
 -- The bytes of document 01's texts: those of a quoted text, each of whose characters is one byte, and three by name.
 use Rattle.std.specs.Prelude.{ℕ, List, [], ◌∷◌}
-use Prim.Native.Char.{Char, code}
+use Prim.Native.Char.{code}
 use Prim.Native.String as Text
 use Prim.Native.String.{String}
 

@@ -1,5 +1,5 @@
 -- An ordered list of numbered rules, as document 01 tables its refusals, and the number of the first that is given.
-use Rattle.std.specs.Prelude.{ℕ, Bool, true, false, cond, ◌||◌, List, [], ◌∷◌, ltb}
+use Rattle.std.specs.Prelude.{ℕ, Bool, cond, ◌||◌, List, [], ◌∷◌, ltb}
 
 pub record Rule (A : Type 0) : Type 0 where
   pub number : ℕ

@@ -1,6 +1,6 @@
 -- Tasks are numbered from 1: a fact or a test asked of tasks 1 to n, the lowest of them that meets it, a list with an
 -- entry for each.
-use Rattle.std.specs.Prelude.{ℕ, zero, suc, ◌≤◌, Bool, true, false, cond, ◌&&◌, List, [], ◌∷◌, ◌++◌, get_or}
+use Rattle.std.specs.Prelude.{ℕ, zero, suc, ◌≤◌, Bool, true, cond, ◌&&◌, List, [], ◌∷◌, ◌++◌, get_or}
 
 -- P holds of each of 1 to n
 abbrev pub Each : ℕ → (ℕ → Type 0) → Type 0

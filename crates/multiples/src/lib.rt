@@ -1,5 +1,6 @@
 // The greatest common divisor and the least common multiple.
 #![tactic(auto)]
+
 ghost use Rattle.std.specs.Prelude.{◌≡◌, cond, leb};
 ghost use Rattle.multiples.specs.Gcd.{gcd, lcm};
 

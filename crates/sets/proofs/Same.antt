@@ -1,5 +1,5 @@
 -- When two sets are one, when they share nothing, and when one is within the other: each from the bits at every place.
-use Prim.Native.Nat.{ℕ, zero, suc, ◌+◌, ◌-◌, ◌%◌, ◌^◌, ◌<◌, ◌≤◌}
+use Prim.Native.Nat.{ℕ, zero, suc, ◌+◌, ◌%◌, ◌^◌, ◌<◌, ◌≤◌}
 use mathlib.Core.Path.{◌≡◌, sym, ◌∙◌}
 use native.Mathlib.Nat.{lt_of_lt_of_le, pow-suc, mod-lt, mod-eq_of_lt}
 use native.Mathlib.Omega.{arith}

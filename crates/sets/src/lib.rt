@@ -1,5 +1,6 @@
 // Sets of tasks and of partitions as numbers, and the choice of partitions for a starting job.
 #![tactic(auto)]
+
 ghost use Rattle.std.specs.Prelude.{◌≡◌, min};
 ghost use Rattle.table.specs.Limits.{most_partitions};
 ghost use Rattle.sets.specs.Sets.{partitions_in, below, without};

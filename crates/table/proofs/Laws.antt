@@ -1,7 +1,7 @@
 -- Laws of `rows_from` for the loop over the rows.
-use Prim.Native.Nat.{ℕ, suc, ◌+◌, ◌<◌, ◌≤◌}
-use mathlib.Core.Path.{◌≡◌, refl, sym, ◌∙◌}
-use mathlib.Core.List.{List, [], ◌∷◌}
+use Prim.Native.Nat.{ℕ, ◌+◌, ◌<◌, ◌≤◌}
+use mathlib.Core.Path.{◌≡◌, sym}
+use mathlib.Core.List.{List}
 use borrow.Author.Tests.{eq-eqb, ne_eqb}
 use native.Mathlib.Numerals.{add-one}
 use native.Mathlib.Omega.{arith}
@@ -9,7 +9,7 @@ use lib.ListN.{length, take, drop, get_or, length-take, drop_of_length-le}
 use Rattle.maths.proofs.Lists.{front}
 use Rattle.table.specs.declared.Task.{Task}
 use Rattle.table.specs.Tasks.{no_task}
-use Rattle.table.specs.Refused.{row_rules, row_refusal, rows_from}
+use Rattle.table.specs.Refused.{row_refusal, rows_from}
 
 module _ (p n : ℕ) (rows : List Task) (i : ℕ) (lt : i < n) (fits : n ≤ length rows) where
   pub row-good : 0 ≡ row_refusal p (get_or rows i no_task)

@@ -1,5 +1,6 @@
 // The task table of a unit and its platform, the limits of each, and refusals 1 to 8 of document 01.
 #![tactic(auto)]
+
 ghost use Rattle.std.specs.Prelude.{min, ◌≤◌, ◌≡◌};
 ghost use Rattle.table.specs.Limits.{most_tasks, most_cores, most_partitions, longest_period};
 ghost use Rattle.table.specs.Refused.{sizes_refusal, row_refusal, rows_refusal, refusal};

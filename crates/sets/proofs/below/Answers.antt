@@ -9,16 +9,13 @@ use Rattle.sets.proofs.below.Goals as goal
 pub overflow_sub-result : goal.overflow_sub-result
 overflow_sub-result c = rw (shifted 64 c.args.p.0 (search rules)) (pow_pos c.args.p.0)
 
-
 pub returns-then-count-lt-MOST : goal.returns-then-count-lt-MOST
 returns-then-count-lt-MOST c =
     let p = c.args.p.0 in
     let m : min p 64 ≡ p = omega arith in
     rw (shifted 64 p (search rules), m)
 
-
 pub returns : goal.returns
 returns c =
     let m : min c.args.p.0 64 ≡ 64 = omega arith in
     rw m
-

@@ -9,14 +9,11 @@ use Rattle.sets.proofs.has_task.Goals as goal
 pub returns-then-k-lt1 : goal.returns-then-k-lt1
 returns-then-k-lt1 c = rw (le-ltb 0 c.args.k (omega arith))
 
-
 pub returns-then-k-gt-MOST : goal.returns-then-k-gt-MOST
 returns-then-k-gt-MOST c =
     let x = c.args.x in
     let k = c.args.k in
     rw (lt-ltb 0 k (omega arith)) (sym (bit-none x (k - 1) (bit-above 32 x (k - 1) (search rules) (omega arith))))
 
-
 pub returns : goal.returns
 returns c = rw (lt-ltb 0 c.args.k (omega arith))
-

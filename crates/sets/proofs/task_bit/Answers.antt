@@ -1,6 +1,5 @@
 use Prim.Native.Nat.{◌-◌}
 use native.Mathlib.Omega.{arith}
-use borrow.Author.Rules.{rules}
 use borrow.Author.Tests.{lt-ltb, le-ltb}
 use Rattle.table.specs.Limits.{most_tasks}
 use Rattle.sets.proofs.Wheres.{shifted}
@@ -9,13 +8,10 @@ use Rattle.sets.proofs.task_bit.Goals as goal
 pub returns-then-k-lt1 : goal.returns-then-k-lt1
 returns-then-k-lt1 c = search (lt-ltb, le-ltb)
 
-
 pub returns-then-k-gt-MOST : goal.returns-then-k-gt-MOST
 returns-then-k-gt-MOST c = search (lt-ltb, le-ltb)
-
 
 pub returns : goal.returns
 returns c =
     let k = c.args.k in
     rw (shifted 32 (k - 1) (omega arith), le-ltb k 1 (omega arith), le-ltb most_tasks k (omega arith))
-

@@ -1,6 +1,4 @@
-use borrow.Author.Rules.{rules}
 use Rattle.table.proofs.Table.empty.Goals as goal
 
 pub returns : goal.returns
 returns c = rw c.none.ensures
-

@@ -6,33 +6,26 @@ pub returns-then-self-lt1 : goal.returns-then-self-lt1
 unfolding row_rules
 returns-then-self-lt1 c = search tests
 
-
 pub returns-then-self-gt-LONGEST : goal.returns-then-self-gt-LONGEST
 unfolding row_rules
 returns-then-self-gt-LONGEST c = search tests
-
 
 pub returns-then-self-eq0 : goal.returns-then-self-eq0
 unfolding row_rules
 returns-then-self-eq0 c = search tests
 
-
 pub returns-then-self : goal.returns-then-self
 unfolding row_rules
 returns-then-self c = search tests
-
 
 pub returns-then-self-2 : goal.returns-then-self-2
 unfolding row_rules
 returns-then-self-2 c = search tests
 
-
 pub returns-then-p-self : goal.returns-then-p-self
 unfolding row_rules
 returns-then-p-self c = search tests
 
-
 pub returns : goal.returns
 unfolding row_rules
 returns c = search tests
-

@@ -1,12 +1,12 @@
 -- How long the listings are: a refusal carries small numbers, and so does a good table's margin.
 use Prim.Native.Nat.{ℕ, zero, suc, ◌+◌, ◌*◌, ◌^◌, ◌<◌, ◌≤◌, suc-le-suc}
-use mathlib.Core.Path.{◌≡◌, refl, sym, ap, ◌∙◌}
+use mathlib.Core.Path.{◌≡◌, refl, ap}
 use mathlib.Core.Bool.{Bool, true, false, cond, ◌&&◌}
 use mathlib.Core.List.{List, [], ◌∷◌, ◌++◌}
 use native.Mathlib.Omega.{arith}
 use borrow.Author.Tests.{leb-true, le-leb, eqb-true}
-use lib.Dec.{eqb, leb}
-use lib.IntN.{ℤ, pos, negsuc, ◌-ℤ◌}
+use lib.Dec.{leb}
+use lib.IntN.{ℤ, pos, negsuc}
 use lib.Signed.{mag}
 use lib.ListN.{length, get_or, take, length-append, length-take}
 use lib.Seq.{get_or-take}
@@ -18,7 +18,7 @@ use Rattle.maths.proofs.Padded.{length-padded}
 use Rattle.maths.proofs.Tests.{both}
 use Rattle.forms.specs.Digits.{digits, digits_in}
 use Rattle.forms.specs.Forms.{Form, none, also, line, ending, platform_form, tasks_form}
-use Rattle.forms.specs.Reads.{Answer, found, refused, Reads}
+use Rattle.forms.specs.Reads.{Answer, found, refused}
 use Rattle.forms.specs.Reader.{read}
 use Rattle.forms.proofs.Digits.{width_one, width_most}
 use Rattle.forms.proofs.Sizes.{line-most}
@@ -31,7 +31,6 @@ use Rattle.table.specs.Tasks.{no_task}
 use Rattle.table.specs.Good.{Good}
 use Rattle.table.proofs.Good.{good_of}
 use Rattle.table.proofs.Refusals.{refusal_carries}
-use Rattle.admission.specs.declared.FullAnswer.{FullAnswer}
 use Rattle.admission.specs.Test.{interference, weight, load, limit, less, margin, admitted, first_failing}
 use Rattle.admission.specs.Answers.{margins, full_answer}
 use Rattle.admission.proofs.Bounds.{most_term, row-good, term_le, B-le, S-le, limit-small}

@@ -1,5 +1,6 @@
 // Whole texts in, whole text out: what the programs write, and the quick verdict on two texts.
 #![tactic(auto)]
+
 ghost use Rattle.std.specs.Prelude.{◌≡◌, ◌&&◌, leb};
 ghost use Rattle.forms.specs.Forms.{platform_form, tasks_form, ticks_form};
 ghost use Rattle.readers.specs.Inputs.{platform_read, table_read, ticks_read};

@@ -1,23 +1,25 @@
 // Judges the table of platform.csv and tasks.csv, of the working folder, and writes a row for each task, or the
 // refusal.
 #![tactic(auto)]
+
 ghost use Rattle.std.specs.Prelude.{◌≡◌};
 ghost use Rattle.table.specs.Refused.{no_refusal};
 ghost use Rattle.files.specs.Got.{Whole};
 
 use files::ROOM;
-use libc::STDOUT_FILENO;
+use std::io;
+use std::rt::Files;
 use writers::Written;
 
 const LISTING: usize = texts::ADMIT_MOST;
 
 // What the files give, and how long it is. The buffer is never too short.
-fn put_listing(out: &mut [u8; LISTING]) -> Written
+fn put_listing<R: Files>(rt: &R, out: &mut [u8; LISTING]) -> Written
     ensures { (result.refused ≡ no_refusal) × Whole result.length out.new }
 {
     let mut platform = [0u8; ROOM];
     let mut tasks = [0u8; ROOM];
-    let f = files::read_table(&mut platform, &mut tasks);
+    let f = files::read_table(rt, &mut platform, &mut tasks);
     let p_there = f.platform.there;
     let p_length = f.platform.length;
     let t_there = f.tasks.there;
@@ -31,9 +33,9 @@ fn put_listing(out: &mut [u8; LISTING]) -> Written
     )
 }
 
-fn main() {
+fn main(rt: HostRuntime) -> io::Result<()> {
     let mut out = [0u8; LISTING];
-    let w = put_listing(&mut out);
+    let w = put_listing(&rt, &mut out);
     let n = w.length;
-    io::write_all(STDOUT_FILENO, &out[..n]);
+    rt.write_all(&out[..n])
 }

@@ -1,7 +1,12 @@
 // Whole files, for the programs: into a buffer that the caller lends. A file that is longer fills the buffer.
 #![tactic(auto)]
+
 ghost use Rattle.std.specs.Prelude.{◌+◌, ◌≤◌, ◌≡◌, length};
 ghost use Rattle.files.specs.Got.{Whole};
+
+use std::fs;
+use std::io::Read;
+use std::rt::Files;
 
 // How many bytes came, if the file could be read.
 #[derive(Clone, Copy)]
@@ -17,24 +22,28 @@ struct Some {
 }
 
 // One read into the buffer from a place on.
-fn read_some(fd: i32, buf: &mut [u8], at: usize) -> Some
+fn read_some<R: Read>(reader: &mut R, buf: &mut [u8], at: usize) -> Some
     requires { at ≤ length buf.old }
     ensures { (at + result.count ≤ length buf.old) × (length buf.new ≡ length buf.old) }
 {
-    let got = libc::read(fd, &mut buf[at..]);
-    let n = io::count(got, &buf[at..]);
-    Some {
-        failed: got < 0,
-        count: n,
+    match reader.read(&mut buf[at..]) {
+        Ok(n) => Some {
+            failed: false,
+            count: n,
+        },
+        Err(_) => Some {
+            failed: true,
+            count: 0,
+        },
     }
 }
 
-pub fn read_all(fd: i32, buf: &mut [u8]) -> File
+pub fn read_all<R: Read>(reader: &mut R, buf: &mut [u8]) -> File
     ensures { Whole result.length buf.new }
 {
     let mut at: usize = 0;
     while at < buf.len() {
-        let more = read_some(fd, buf, at);
+        let more = read_some(reader, buf, at);
         if more.failed {
             return File {
                 there: false,
@@ -53,19 +62,21 @@ pub fn read_all(fd: i32, buf: &mut [u8]) -> File
 }
 
 // A file of the working folder.
-pub fn read_file(path: &[u8], buf: &mut [u8]) -> File
+pub fn read_file<R: Files>(rt: &R, path: &[u8], buf: &mut [u8]) -> File
     ensures { Whole result.length buf.new }
 {
-    let fd = os::open_read(path);
-    if fd < 0 {
-        return File {
-            there: false,
-            length: 0,
-        };
+    let none = File {
+        there: false,
+        length: 0,
+    };
+    let name = match std::str::from_utf8(path) {
+        Ok(name) => name,
+        Err(_) => return none,
+    };
+    match fs::open(rt, name) {
+        Ok(mut file) => read_all(&mut file, buf),
+        Err(_) => none,
     }
-    let f = read_all(fd, buf);
-    libc::close(fd);
-    f
 }
 
 // One byte more than the longest text that a program takes.
@@ -79,11 +90,11 @@ pub struct TableFiles {
 
 // The two texts of a table. Arrays are lent at their length: the prover would count out one that a function itself
 // makes.
-pub fn read_table(platform: &mut [u8; ROOM], tasks: &mut [u8; ROOM]) -> TableFiles
+pub fn read_table<R: Files>(rt: &R, platform: &mut [u8; ROOM], tasks: &mut [u8; ROOM]) -> TableFiles
     ensures { Whole result.platform.length platform.new × Whole result.tasks.length tasks.new }
 {
-    let p = read_file(b"platform.csv", platform);
-    let t = read_file(b"tasks.csv", tasks);
+    let p = read_file(rt, b"platform.csv", platform);
+    let t = read_file(rt, b"tasks.csv", tasks);
     TableFiles {
         platform: p,
         tasks: t,

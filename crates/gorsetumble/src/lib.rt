@@ -1,5 +1,6 @@
 // What the outside calls: a lent row of task records, and a machine that the caller lends and gets moved on.
 #![tactic(auto)]
+
 pub mod lending;
 pub mod texting;
 
@@ -48,31 +49,27 @@ fn table_of(platform: Platform, rows: &[Task]) -> Table
     whole(platform, n, first)
 }
 
-#[unsafe(no_mangle)]
-pub extern "C" fn gorsetumble_full(platform: Platform, rows: &[Task]) -> FullAnswer
+pub fn gorsetumble_full(platform: Platform, rows: &[Task]) -> FullAnswer
     ensures { result ≡ full_answer (table_of platform rows.now) }
 {
     admission::full_answer(table_of(platform, rows))
 }
 
-#[unsafe(no_mangle)]
-pub extern "C" fn gorsetumble_quick(platform: Platform, rows: &[Task]) -> QuickAnswer
+pub fn gorsetumble_quick(platform: Platform, rows: &[Task]) -> QuickAnswer
     ensures { result ≡ quick_answer (table_of platform rows.now) }
 {
     admission::quick_answer(table_of(platform, rows))
 }
 
 // The rows rehearsed on the bench.
-#[unsafe(no_mangle)]
-pub extern "C" fn gorsetumble_rehearse(platform: Platform, rows: &[Task]) -> Rehearsal
+pub fn gorsetumble_rehearse(platform: Platform, rows: &[Task]) -> Rehearsal
     ensures { result ≡ rehearsed (table_of platform rows.now) }
 {
     rehearsing::rehearse(table_of(platform, rows))
 }
 
 // A fresh machine of the rows in the place of the old one, which stays where they are refused.
-#[unsafe(no_mangle)]
-pub extern "C" fn gorsetumble_set_up(m: &mut Machine, platform: Platform, rows: &[Task]) -> Refusal
+pub fn gorsetumble_set_up(m: &mut Machine, platform: Platform, rows: &[Task]) -> Refusal
     ensures { (result ≡ (set_up m.old (table_of platform rows.now)).refused)
         × (m.new ≡ (set_up m.old (table_of platform rows.now)).machine) }
 {
@@ -83,8 +80,7 @@ pub extern "C" fn gorsetumble_set_up(m: &mut Machine, platform: Platform, rows: 
 }
 
 // One tick of the machine, in its place.
-#[unsafe(no_mangle)]
-pub extern "C" fn gorsetumble_tick(m: &mut Machine, released: u32, finished: u32) -> Answer
+pub fn gorsetumble_tick(m: &mut Machine, released: u32, finished: u32) -> Answer
     ensures { (result ≡ (tick m.old released finished).answer)
         × (m.new ≡ (tick m.old released finished).machine) }
 {

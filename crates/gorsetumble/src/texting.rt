@@ -109,12 +109,7 @@ fn renew(old: Machine, t: TextsRead) -> TextsSetUp
 }
 
 // A fresh machine of two texts in the place of the old one, which stays where they are refused.
-#[unsafe(no_mangle)]
-pub extern "C" fn gorsetumble_set_up_texts(
-    m: &mut Machine,
-    platform: &[u8],
-    tasks: &[u8],
-) -> TextRefusal
+pub fn gorsetumble_set_up_texts(m: &mut Machine, platform: &[u8], tasks: &[u8]) -> TextRefusal
     ensures { (result ≡ (set_up_texts m.old platform.now tasks.now).refused)
         × (m.new ≡ (set_up_texts m.old platform.now tasks.now).machine) }
 {
@@ -124,67 +119,47 @@ pub extern "C" fn gorsetumble_set_up_texts(
     s.refused
 }
 
-#[unsafe(no_mangle)]
-pub extern "C" fn gorsetumble_quick_verdict(platform: &[u8], tasks: &[u8]) -> u32
+pub fn gorsetumble_quick_verdict(platform: &[u8], tasks: &[u8]) -> u32
     ensures { result ≡ verdict platform.now tasks.now }
 {
     texts::quick_verdict(platform, tasks)
 }
 
-#[unsafe(no_mangle)]
-pub extern "C" fn gorsetumble_admit(platform: &[u8], tasks: &[u8], out: &mut [u8]) -> Written
+pub fn gorsetumble_admit(platform: &[u8], tasks: &[u8], out: &mut [u8]) -> Written
     ensures { Wrote (admit_text true platform.now true tasks.now)
         out.old result out.new }
 {
     texts::admit(true, platform, true, tasks, out)
 }
 
-#[unsafe(no_mangle)]
-pub extern "C" fn gorsetumble_rehearse_texts(
-    platform: &[u8],
-    tasks: &[u8],
-    out: &mut [u8],
-) -> Written
+pub fn gorsetumble_rehearse_texts(platform: &[u8], tasks: &[u8], out: &mut [u8]) -> Written
     ensures { Wrote (rehearse_text true platform.now true tasks.now)
         out.old result out.new }
 {
     trials::rehearse(true, platform, true, tasks, out)
 }
 
-#[unsafe(no_mangle)]
-pub extern "C" fn gorsetumble_ticks(
-    platform: &[u8],
-    tasks: &[u8],
-    ticks: &[u8],
-    out: &mut [u8],
-) -> Written
+pub fn gorsetumble_ticks(platform: &[u8], tasks: &[u8], ticks: &[u8], out: &mut [u8]) -> Written
     ensures { Wrote (ticks_text true platform.now true tasks.now true ticks.now)
         out.old result out.new }
 {
     runs::ticks(true, platform, true, tasks, true, ticks, out)
 }
 
-#[unsafe(no_mangle)]
-pub extern "C" fn gorsetumble_write_platform(platform: Platform, out: &mut [u8]) -> Written
+pub fn gorsetumble_write_platform(platform: Platform, out: &mut [u8]) -> Written
     ensures { Wrote (platform_text platform) out.old result out.new }
 {
     writers::write_platform(platform, out)
 }
 
-#[unsafe(no_mangle)]
-pub extern "C" fn gorsetumble_write_tasks(table: Table, out: &mut [u8]) -> Written
+pub fn gorsetumble_write_tasks(table: Table, out: &mut [u8]) -> Written
     ensures { Wrote (tasks_text table) out.old result out.new }
 {
     writers::write_tasks(table, out)
 }
 
 // Both texts of a table, or neither.
-#[unsafe(no_mangle)]
-pub extern "C" fn gorsetumble_write_texts(
-    table: Table,
-    platform: &mut [u8],
-    tasks: &mut [u8],
-) -> TextsWritten
+pub fn gorsetumble_write_texts(table: Table, platform: &mut [u8], tasks: &mut [u8]) -> TextsWritten
     ensures { WroteBoth (platform_text table.platform) (tasks_text table) platform.old
         tasks.old result platform.new tasks.new }
 {

@@ -2,22 +2,24 @@
 // leaves it at work.
 // Every step goes through the lent forms.
 #![tactic(auto)]
+
 use gorsetumble::lending;
 use machine::{Machine, Stage};
+use std::io;
 use table::{Cores, Partitions, Platform, Refusal, Table, Task};
 
-fn say(text: &[u8]) {
-    io::write_all(libc::STDOUT_FILENO, text);
+fn say<P: Print>(rt: &P, text: &[u8]) -> io::Result<()> {
+    rt.write_all(text)
 }
 
-fn say_number(name: &[u8], x: u64) {
-    say(name);
-    io::print_decimal(libc::STDOUT_FILENO, x);
+fn say_number<P: Print>(rt: &P, name: &[u8], x: u64) -> io::Result<()> {
+    say(rt, name)?;
+    rt.print(x)
 }
 
-fn say_refusal(r: Refusal) {
-    say_number(b"refused ", r.number as u64);
-    say_number(b", row or task ", r.row as u64);
+fn say_refusal<P: Print>(rt: &P, r: Refusal) -> io::Result<()> {
+    say_number(rt, b"refused ", r.number as u64)?;
+    say_number(rt, b", row or task ", r.row as u64)
 }
 
 fn one_if_runs(s: Stage) -> u64 {
@@ -48,43 +50,44 @@ fn in_use(m: Machine) -> Use {
     }
 }
 
-fn say_machine(m: Machine) {
+fn say_machine<P: Print>(rt: &P, m: Machine) -> io::Result<()> {
     let x = in_use(m);
-    say_number(b"  tasks ", m.table.n as u64);
-    say_number(b", running ", x.running);
-    say_number(b", partitions held ", x.held);
-    say(b"\n");
+    say_number(rt, b"  tasks ", m.table.n as u64)?;
+    say_number(rt, b", running ", x.running)?;
+    say_number(rt, b", partitions held ", x.held)?;
+    say(rt, b"\n")
 }
 
-fn set_up(
+fn set_up<P: Print>(
+    rt: &P,
     name: &[u8],
     old: Machine,
     platform: Platform,
     rows: [Task; lending::MOST],
     n: usize,
-) -> Machine {
+) -> io::Result<Machine> {
     let s = lending::set_up_from(old, platform, rows, n);
-    say(name);
-    say(b": ");
-    say_refusal(s.refused);
-    say(b"\n");
+    say(rt, name)?;
+    say(rt, b": ")?;
+    say_refusal(rt, s.refused)?;
+    say(rt, b"\n")?;
     let next = s.machine;
-    say_machine(next);
-    next
+    say_machine(rt, next)?;
+    Ok(next)
 }
 
-fn tick(m: Machine, released: u32, finished: u32) -> Machine {
+fn tick<P: Print>(rt: &P, m: Machine, released: u32, finished: u32) -> io::Result<Machine> {
     let t = lent::ticked(m, released, finished);
-    say_number(b"tick, released ", released as u64);
-    say_number(b", finished ", finished as u64);
-    say(b": ");
-    say_refusal(t.answer.refused);
-    say_number(b", late ", t.answer.late as u64);
-    say_number(b", started ", t.answer.started as u64);
-    say(b"\n");
+    say_number(rt, b"tick, released ", released as u64)?;
+    say_number(rt, b", finished ", finished as u64)?;
+    say(rt, b": ")?;
+    say_refusal(rt, t.answer.refused)?;
+    say_number(rt, b", late ", t.answer.late as u64)?;
+    say_number(rt, b", started ", t.answer.started as u64)?;
+    say(rt, b"\n")?;
     let next = t.machine;
-    say_machine(next);
-    next
+    say_machine(rt, next)?;
+    Ok(next)
 }
 
 fn row(d: u32, t: u32, c: u32, a: u32) -> Task {
@@ -122,24 +125,40 @@ fn next_clinic() -> [Task; lending::MOST] {
     rows
 }
 
-fn main() {
+fn main(rt: HostRuntime) -> io::Result<()> {
     let a = platform(3, 4);
     let b = platform(2, 2);
     let never = Machine::fresh(Table::empty(a));
-    let first = set_up(b"the first clinic", never, a, first_clinic(), 4);
-    let at_work = tick(first, 15, 0);
-    let still = tick(at_work, 0, 0);
-    let refused = set_up(b"the next clinic, three rows", still, b, next_clinic(), 3);
+    let first = set_up(&rt, b"the first clinic", never, a, first_clinic(), 4)?;
+    let at_work = tick(&rt, first, 15, 0)?;
+    let still = tick(&rt, at_work, 0, 0)?;
+    let refused = set_up(
+        &rt,
+        b"the next clinic, three rows",
+        still,
+        b,
+        next_clinic(),
+        3,
+    )?;
     let too_many = set_up(
+        &rt,
         b"the next clinic, 33 rows",
         refused,
         b,
         next_clinic(),
         lending::MOST,
-    );
-    let goes_on = tick(too_many, 0, 1);
-    let next = set_up(b"the next clinic, two rows", goes_on, b, next_clinic(), 2);
-    let named = tick(next, 0, 4);
-    let unknown = tick(named, 0, 2);
-    tick(unknown, 3, 0);
+    )?;
+    let goes_on = tick(&rt, too_many, 0, 1)?;
+    let next = set_up(
+        &rt,
+        b"the next clinic, two rows",
+        goes_on,
+        b,
+        next_clinic(),
+        2,
+    )?;
+    let named = tick(&rt, next, 0, 4)?;
+    let unknown = tick(&rt, named, 0, 2)?;
+    tick(&rt, unknown, 3, 0)?;
+    Ok(())
 }

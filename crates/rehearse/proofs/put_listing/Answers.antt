@@ -1,0 +1,14 @@
+use borrow.Author.Rules.{rules}
+use native.Mathlib.Nat.{le_trans}
+use mathlib.Core.Path.{sym}
+use lib.Seq.{length-take-le}
+use Rattle.writers.proofs.Wholes.{wrote_inside, wrote_all}
+use Rattle.trials.proofs.Sizes.{rehearse_fits}
+use Rattle.rehearse.proofs.put_listing.Goals as goal
+
+pub returns : goal.returns
+returns c =
+    let wrote = c.rehearse.ensures in
+    let inside = wrote_inside _ _ _ _ wrote in
+    let all = sym (length-take-le _ _ inside) in
+    (wrote_all _ _ _ _ wrote (le_trans (rehearse_fits _ _ _ _) (search rules)), (inside, all))

@@ -1,5 +1,6 @@
 // What the program "explain" writes: for each pair of tasks what the one takes of the other's limit.
 #![tactic(auto)]
+
 ghost use Rattle.std.specs.Prelude.{◌*◌, ◌<◌, ◌≤◌, ◌≡◌, true, [], length, get_or};
 ghost use Rattle.table.specs.Limits.{most_tasks};
 ghost use Rattle.table.specs.Refused.{unrefused};

@@ -10,7 +10,7 @@ use Rattle.machine.specs.Jobs.{is_waiting, is_running, top}
 use Rattle.machine.specs.Steps.{older}
 use Rattle.machine.proofs.Jobs.{finished_job, readied_job}
 use Rattle.machine.proofs.StateParts.{not-both}
-use Rattle.lives.specs.Life.{age, ran, idles, waits, runs, rise, finish, release, start, Allowed}
+use Rattle.lives.specs.Life.{ran, rise, finish, release, start, Allowed}
 use Rattle.admission.specs.Test.{row}
 use Rattle.conduct.specs.Lives.{life}
 use Rattle.machine.proofs.Taken.{Taken}

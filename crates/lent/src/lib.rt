@@ -1,6 +1,7 @@
 // A tick of a machine that the caller lends and gets moved on, and the same for a caller in Rattle, which can make no
 // reference to a record.
 #![tactic(auto)]
+
 ghost use Rattle.std.specs.Prelude.{◌≡◌};
 ghost use Rattle.machine.specs.Tick.{tick};
 

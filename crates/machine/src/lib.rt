@@ -1,5 +1,6 @@
 // The machine: a table and the job of each task, what a tick answers, and what a start asks.
 #![tactic(auto)]
+
 ghost use Rattle.std.specs.Prelude.{◌≡◌};
 ghost use Rattle.machine.specs.Steps.{fits_in};
 

@@ -1,5 +1,6 @@
 // What a rehearsal answers.
 #![tactic(auto)]
+
 use table::{Refusal, Table};
 
 // The tick at which a job is late and the lowest such task, 0 and 0 where none is, and how many jobs each task started

@@ -1,5 +1,6 @@
 // A table rehearsed, event by event: ticks that bring nothing are leapt over.
 #![tactic(auto)]
+
 ghost use Rattle.std.specs.Prelude.{◌≡◌, true, ◌≤◌};
 ghost use Rattle.table.specs.Refused.{unrefused};
 ghost use Rattle.rehearsal.specs.Multiple.{multiple, most_multiple};

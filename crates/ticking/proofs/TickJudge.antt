@@ -22,7 +22,7 @@ use Rattle.sets.proofs.Unions.{apart-all}
 use Rattle.ticking.specs.declared.Look.{Look}
 use Rattle.machine.specs.declared.Machine.{Machine}
 use Rattle.ticking.specs.declared.Past.{Past}
-use Rattle.machine.specs.Jobs.{job, running}
+use Rattle.machine.specs.Jobs.{job}
 use Rattle.machine.specs.Conditions.{good_state}
 use Rattle.ticking.specs.Code.Passes.{refuses, past_with, past_none, found_good, first_above, found_refusal}
 use Rattle.machine.specs.Tick.{tick_rules, first_given, tick_refusal, accepted}

@@ -1,5 +1,6 @@
 // One tick under blocking FP_CA, by value, in two passes over the tasks: the first judges and the second moves.
 #![tactic(auto)]
+
 ghost use Rattle.std.specs.Prelude.{◌≡◌, cond, eqb};
 ghost use Rattle.machine.specs.Tick.{tick};
 

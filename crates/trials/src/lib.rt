@@ -1,6 +1,7 @@
 // What the program "rehearse" writes: for each task the jobs that it started on the bench, and the tick at which it was
 // late.
 #![tactic(auto)]
+
 ghost use Rattle.std.specs.Prelude.{suc, ◌<◌, ◌≡◌};
 ghost use Rattle.table.specs.Limits.{most_tasks};
 ghost use Rattle.writers.specs.Written.{Wrote};

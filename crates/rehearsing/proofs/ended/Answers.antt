@@ -1,6 +1,4 @@
-use borrow.Author.Rules.{rules}
 use Rattle.rehearsing.proofs.ended.Goals as goal
 
 pub returns : goal.returns
 returns c = rw c.starts_of-started.ensures
-

@@ -26,15 +26,12 @@ none-started r x e = rw e (λ c. record { refused = r; tick = 0; task = 0; start
     none : starts_of (replicate most_tasks first_lane) ≡ none_started
     none = refl
 
-
 -- what the table's own refusal says of the table
 unrefused : (t : Table) {r : Refusal} → r ≡ refusal t → r.number ≡ 0 → (refusal t).number ≡ 0
 unrefused t e none = ap (λ (x : Refusal). x.number) (sym e) ∙ none
 
-
 refused-some : (t : Table) {r : Refusal} → r ≡ refusal t → r.number ≢ 0 → (refusal t).number ≢ 0
 refused-some t e some none = some (ap (λ (x : Refusal). x.number) e ∙ none)
-
 
 pub returns-then-refused-ne0 : goal.returns-then-refused-ne0
 returns-then-refused-ne0 c =
@@ -44,10 +41,8 @@ returns-then-refused-ne0 c =
     ∙ (ap refused_by refused.ensures
     ∙ sym (answer-refused _ (refused-some _ refused.ensures (search rules)))))
 
-
 pub multiple-l-requires : goal.multiple-l-requires
 multiple-l-requires c = eq-eqb _ 0 (unrefused _ c.refused-refused.ensures (search rules))
-
 
 pub returns-then-l-eq0 : goal.returns-then-l-eq0
 returns-then-l-eq0 c =
@@ -59,7 +54,6 @@ returns-then-l-eq0 c =
     ∙ sym (answer_17 _ ok (was-above _ _ (is-least (good_of _ (search (len_mapped, rules)) ok)).some
     (sym multiple.ensures ∙ search rules))))
 
-
 pub run-requires : goal.run-requires
 run-requires c =
     let refused = c.refused-refused in
@@ -70,4 +64,3 @@ run-requires c =
       multiple.ensures ∙ is_within _ _ within,
       rw (multiple.ensures ∙ is_within _ _ within) within,
     )
-

@@ -1,14 +1,13 @@
 -- The loop's invariant: on the way through the listing, tasks i + 1 and on are left of it.
 use borrow.Author.Rules.{rules}
-use Prim.Native.Nat.{◌+◌, ◌-◌, ◌≤◌}
-use mathlib.Core.Path.{◌≡◌, refl, ap, ◌∙◌}
+use Prim.Native.Nat.{◌+◌, ◌≤◌}
+use mathlib.Core.Path.{refl, ap, ◌∙◌}
 use mathlib.Core.List.{◌++◌}
 use native.Mathlib.Omega.{arith}
 use lib.ListN.{length}
 use Rattle.forms.specs.Forms.{line}
-use Rattle.writers.specs.Code.Put.{Put}
 use Rattle.writers.proofs.Added.{put_added}
-use Rattle.writers.proofs.Sequences.{Putting, putting_start, putting_more, putting_end, putting_room}
+use Rattle.writers.proofs.Sequences.{putting_start, putting_more, putting_end, putting_room}
 use Rattle.writers.proofs.Sequences.{put_then, put-room, put-length, first_fits}
 use Rattle.trials.specs.Rehearse.{rehearse_most}
 use Rattle.trials.proofs.Trials.{header, trial_from, trial_split, trial_more, trial_end, put-stands}
@@ -29,7 +28,7 @@ loop-i-preserved c =
     let rest = trial_from args.n args.r in
     let comes = trial_more args.n args.r c.loop-i.i c.loop-i-test.true _ c.trial_row-numbers.ensures in
     let place = putting_room c.loop-i.invariant.2 (line c.trial_row-numbers.result) (rest (c.loop-i.i + 1)) comes
-        (put-room (rest 0) head fits) in
+    (put-room (rest 0) head fits) in
     let put = put_added _ _ _ _ _ place c.add_line-next.ensures in
     (search rules, put-length put ∙ c.loop-i.invariant.1, putting_more c.loop-i.invariant.2 comes put)
 

@@ -1,4 +1,3 @@
-use borrow.Author.Rules.{rules}
 use mathlib.Core.Path.{sym, ap, ◌∙◌}
 use Rattle.forms.specs.Forms.{platform_form, tasks_form}
 use Rattle.writers.specs.Outputs.{refused_text}
@@ -14,13 +13,11 @@ returns-then-t-ne0 c =
     rw (taken-bad refused_text tried _ _ _ c.take_table-t.ensures c.if-t-ne0.true)
     c.write_refused.ensures
 
-
 pub write_tried-requires : goal.write_tried-requires
 write_tried-requires c =
     let t = c.take_table-t in
     let len = taken-rows (taken platform_form _ _) (taken tasks_form _ _) t.result t.ensures in
     rw c.rehearse-r.ensures (fits_of t.result.table len)
-
 
 pub returns : goal.returns
 unfolding rehearse_text
@@ -29,4 +26,3 @@ returns c =
     let table = taken-good refused_text tried _ (taken platform_form _ _) (taken tasks_form _ _) in
     rw (table t.ensures c.if-t-ne0.false ∙ ap (tried_text t.result.table.n) (sym c.rehearse-r.ensures))
     c.write_tried.ensures
-

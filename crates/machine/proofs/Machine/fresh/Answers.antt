@@ -1,8 +1,6 @@
 use Rattle.machine.specs.Fresh.{fresh}
-use borrow.Author.Rules.{rules}
 use Rattle.machine.proofs.Machine.fresh.Goals as goal
 
 pub returns : goal.returns
 unfolding fresh
 returns c = rw (c.trimmed_rows-rows.ensures, c.fresh_jobs-jobs.ensures)
-

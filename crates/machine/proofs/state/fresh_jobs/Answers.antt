@@ -1,8 +1,8 @@
-use Prim.Native.Nat.{◌≤◌, ◌-◌, min}
+use Prim.Native.Nat.{min}
 use mathlib.Core.Path.{◌≡◌, ◌∙◌}
 use native.Mathlib.Omega.{arith}
 use Rattle.maths.specs.Tasks.{tabulate}
-use Rattle.maths.proofs.Arrays.{up_to, up_none, up_more, up-most}
+use Rattle.maths.proofs.Arrays.{up_none, up_more, up-most}
 use Rattle.table.specs.Limits.{most_tasks}
 use Rattle.machine.specs.Jobs.{no_job}
 use Rattle.machine.specs.Fresh.{fresh_job, fresh}
@@ -14,12 +14,10 @@ unfolding tabulate
 loop-i-init c =
     (search rules, rw c.none-jobs.ensures (up_none most_tasks (fresh_job c.args.t) (λ k. no_job)))
 
-
 pub loop-i-preserved : goal.loop-i-preserved
 loop-i-preserved c =
     let t = c.args.t in
     (search rules, rw c.loop-i.invariant.1 (up_more most_tasks (fresh_job t) (λ k. no_job) c.loop-i.i (search rules)))
-
 
 pub returns : goal.returns
 unfolding fresh
@@ -27,4 +25,3 @@ returns c =
     let t = c.args.t in
     let at-end : c.loop-i.i ≡ min t.n most_tasks = omega arith in
     c.loop-i.invariant.1 ∙ (rw at-end (up-most most_tasks (fresh_job t) (λ k. no_job) t.n))
-

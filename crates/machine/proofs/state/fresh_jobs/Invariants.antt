@@ -1,18 +1,13 @@
-use Prim.Native.Nat.{◌≤◌, ◌-◌, min}
-use mathlib.Core.Path.{◌≡◌, ◌∙◌}
-use native.Mathlib.Omega.{arith}
-use Rattle.maths.specs.Tasks.{tabulate}
-use Rattle.maths.proofs.Arrays.{up_to, up_none, up_more, up-most}
+use Prim.Native.Nat.{◌≤◌, ◌-◌}
+use mathlib.Core.Path.{◌≡◌}
+use Rattle.maths.proofs.Arrays.{up_to}
 use Rattle.table.specs.Limits.{most_tasks}
 use Rattle.machine.specs.Jobs.{no_job}
-use Rattle.machine.specs.Fresh.{fresh_job, fresh}
-use borrow.Author.Rules.{rules}
+use Rattle.machine.specs.Fresh.{fresh_job}
 use Rattle.machine.proofs.state.fresh_jobs.Given as goal
 
 abbrev pub invariant-loop-i : goal.invariant-loop-i
 invariant-loop-i l = (l.i ≤ l.n) × (l.jobs ≡ up_to most_tasks (fresh_job l.t) (λ k. no_job) l.i)
 
-
 abbrev pub decreases-loop-i : goal.decreases-loop-i
 decreases-loop-i l = l.n - l.i
-

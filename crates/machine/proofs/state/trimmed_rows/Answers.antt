@@ -1,8 +1,8 @@
-use Prim.Native.Nat.{◌≤◌, ◌-◌, min}
+use Prim.Native.Nat.{min}
 use mathlib.Core.Path.{◌≡◌, ◌∙◌}
 use native.Mathlib.Omega.{arith}
 use Rattle.maths.specs.Tasks.{tabulate}
-use Rattle.maths.proofs.Arrays.{up_to, up_none, up_more, up-most}
+use Rattle.maths.proofs.Arrays.{up_none, up_more, up-most}
 use Rattle.table.specs.Limits.{most_tasks}
 use Rattle.table.specs.Tasks.{τ, no_task}
 use borrow.Author.Rules.{rules}
@@ -12,16 +12,13 @@ pub loop-i-init : goal.loop-i-init
 unfolding tabulate
 loop-i-init c = (search rules, rw c.none-rows.ensures (up_none most_tasks (τ c.args.t) (λ k. no_task)))
 
-
 pub loop-i-preserved : goal.loop-i-preserved
 loop-i-preserved c =
     let t = c.args.t in
     (search rules, rw c.loop-i.invariant.1 (up_more most_tasks (τ t) (λ k. no_task) c.loop-i.i (search rules)))
-
 
 pub returns : goal.returns
 returns c =
     let t = c.args.t in
     let at-end : c.loop-i.i ≡ min t.n most_tasks = omega arith in
     c.loop-i.invariant.1 ∙ (rw at-end (up-most most_tasks (τ t) (λ k. no_task) t.n))
-

@@ -1,16 +1,14 @@
 use mathlib.Core.Path.{sym, ◌∙◌}
-use borrow.Author.Tests.{leb-true, not-true, not-false}
+use borrow.Author.Tests.{leb-true}
 use lib.Dec.{leb}
 use Rattle.maths.proofs.Tests.{both}
 use Rattle.table.specs.Tasks.{A}
 use Rattle.rehearsing.specs.Code.Lanes.{pass_begin}
-use borrow.Author.Rules.{rules}
 use Rattle.rehearsing.proofs.Pass.begin.Goals as goal
 
 pub returns-then-not-tries : goal.returns-then-not-tries
 unfolding pass_begin
 returns-then-not-tries c = rw (sym c.tries.ensures ∙ c.if-not-tries.true) c.by.ensures
-
 
 pub returns-then-not-fits_in : goal.returns-then-not-fits_in
 unfolding pass_begin
@@ -19,7 +17,6 @@ returns-then-not-fits_in c =
       sym c.tries.ensures ∙ c.if-not-tries.false,
       sym c.fits_in.ensures ∙ c.if-not-fits_in.true,
     ) c.by-then-not-fits_in.ensures
-
 
 pub go-requires : goal.go-requires
 go-requires c =
@@ -31,7 +28,6 @@ go-requires c =
       leb-true (A c.args.task) c.args.self.partitions.0 room.1,
     )
 
-
 pub returns : goal.returns
 unfolding pass_begin
 returns c =
@@ -39,4 +35,3 @@ returns c =
       sym c.tries.ensures ∙ c.if-not-tries.false,
       sym c.fits_in.ensures ∙ c.if-not-fits_in.false,
     ) c.go.ensures
-

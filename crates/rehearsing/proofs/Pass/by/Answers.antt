@@ -1,6 +1,4 @@
-use borrow.Author.Rules.{rules}
 use Rattle.rehearsing.proofs.Pass.by.Goals as goal
 
 pub returns : goal.returns
 returns c = rw (c.sooner.ensures, c.next.ensures)
-

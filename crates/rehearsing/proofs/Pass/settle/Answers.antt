@@ -13,7 +13,6 @@ use Rattle.table.specs.declared.Task.{Task}
 use Rattle.rehearsing.specs.declared.Lane.{Lane}
 use Rattle.rehearsing.specs.declared.Pass.{Pass}
 use Rattle.rehearsing.specs.Code.Lanes.{settled_lane, pass_settle}
-use borrow.Author.Rules.{rules}
 use Rattle.rehearsing.proofs.Pass.settle.Goals as goal
 
 goes_on_lem : (i k : ℕ) (task : Task) (lane : Lane) (p : Pass) {settled : Lane} {late : ℕ}
@@ -29,12 +28,10 @@ goes_on_lem : (i k : ℕ) (task : Task) (lane : Lane) (p : Pass) {settled : Lane
 unfolding pass_settle
 goes_on_lem i k task lane p s n l = rw (s, l, ne_eqb _ _ n, add-zero p.cores.0, add-zero p.partitions.0)
 
-
 pub returns-then-lane-i : goal.returns-then-lane-i
 unfolding pass_settle
 returns-then-lane-i c =
     rw (c.settled-settled.ensures, eq-eqb _ _ c.if-lane-i.true, or_zero c.args.self.late)
-
 
 pub returns-then-lane-i-2 : goal.returns-then-lane-i-2
 returns-then-lane-i-2 c =
@@ -42,17 +39,14 @@ returns-then-lane-i-2 c =
     goes_on_lem a.i a.k a.task a.lane a.self c.settled-settled.ensures c.if-lane-i.false
     (rw (ne_eqb _ _ c.if-lane-i-2.true) (sym (or_zero a.self.late)))
 
-
 pub returns-then-self-eq0 : goal.returns-then-self-eq0
 returns-then-self-eq0 c =
     let a = c.args in
     goes_on_lem a.i a.k a.task a.lane a.self c.settled-settled.ensures c.if-lane-i.false
     (rw (eq-eqb _ _ c.if-lane-i-2.false) (sym (or_else-none a.self.late a.k (omega arith))))
 
-
 pub returns-else-self-eq0 : goal.returns-else-self-eq0
 returns-else-self-eq0 c =
     let a = c.args in
     goes_on_lem a.i a.k a.task a.lane a.self c.settled-settled.ensures c.if-lane-i.false
     (rw (eq-eqb _ _ c.if-lane-i-2.false) (sym (or_else-some a.self.late a.k (omega arith))))
-

@@ -8,15 +8,12 @@ returns-then-not-self c =
     let e : c.args.self.good ≡ false = not-true _ c.if-not-self.true in
     rw e
 
-
 pub returns-then-past-ne0 : goal.returns-then-past-ne0
 returns-then-past-ne0 c =
     let e : c.args.self.good ≡ true = not-false _ c.if-not-self.false in
     rw (e, ne_eqb _ _ c.if-past-ne0.true)
 
-
 pub returns : goal.returns
 returns c =
     let e : c.args.self.good ≡ true = not-false _ c.if-not-self.false in
     rw (e, eq-eqb _ _ c.if-past-ne0.false)
-

@@ -1,14 +1,12 @@
 use mathlib.Core.Path.{sym, ◌∙◌}
-use borrow.Author.Tests.{leb-true, not-true, not-false}
+use borrow.Author.Tests.{leb-true}
 use lib.Dec.{leb}
 use Rattle.maths.proofs.Tests.{both}
 use Rattle.table.specs.Tasks.{A}
-use borrow.Author.Rules.{rules}
 use Rattle.ticking.proofs.Walk.begin.Goals as goal
 
 pub returns-then-not-tries : goal.returns-then-not-tries
 returns-then-not-tries c = rw (sym c.tries.ensures ∙ c.if-not-tries.true) c.by.ensures
-
 
 pub returns-then-not-fits_in : goal.returns-then-not-fits_in
 returns-then-not-fits_in c =
@@ -17,7 +15,6 @@ returns-then-not-fits_in c =
       sym c.fits_in.ensures ∙ c.if-not-fits_in.true,
     ) c.by-then-not-fits_in.ensures
 
-
 pub go-requires : goal.go-requires
 go-requires c =
     let room = both (leb 1 c.args.self.cores.0) _ (sym c.fits_in.ensures ∙ c.if-not-fits_in.false) in (
@@ -25,11 +22,9 @@ go-requires c =
       leb-true (A c.args.task) c.args.self.partitions.0 room.1,
     )
 
-
 pub returns : goal.returns
 returns c =
     rw (
       sym c.tries.ensures ∙ c.if-not-tries.false,
       sym c.fits_in.ensures ∙ c.if-not-fits_in.false,
     ) c.go.ensures
-

@@ -1,4 +1,3 @@
-use borrow.Author.Rules.{rules}
 use Rattle.ticking.proofs.Walk.start.Goals as goal
 
 pub returns : goal.returns
@@ -10,4 +9,3 @@ returns c =
       c.without-idle.ensures,
       c.below.ensures,
     )
-

@@ -3,7 +3,6 @@ use Rattle.machine.specs.declared.Job.{Job}
 use Rattle.ticking.specs.Code.Passes.{walk_with}
 use Rattle.ticking.proofs.TickLeft.{walk-left}
 use Rattle.ticking.proofs.TickTurns.{finished-age}
-use borrow.Author.Rules.{rules}
 use Rattle.ticking.proofs.Walk.with.Goals as goal
 
 pub returns-then-is_left : goal.returns-then-is_left
@@ -11,16 +10,13 @@ returns-then-is_left c =
     c.by.ensures
     ∙ rw c.older_job.ensures (walk-left _ _ _ _ _ (sym c.is_left.ensures ∙ c.if-is_left.true) _)
 
-
 pub late_with-late-requires : goal.late_with-late-requires
-late_with-late-requires c =
-    (
-      c.requires.1,
-      c.requires.2,
-      ap (λ (x : Job). x.age) c.finished_job-ended.ensures
-          ∙ finished-age c.args.task c.has_task.result c.args.j,
-    )
-
+late_with-late-requires c = (
+  c.requires.1,
+  c.requires.2,
+  ap (λ (x : Job). x.age) c.finished_job-ended.ensures
+      ∙ finished-age c.args.task c.has_task.result c.args.j,
+)
 
 pub returns : goal.returns
 unfolding walk_with
@@ -33,4 +29,3 @@ returns c =
       c.finished_job-ended.ensures,
       c.has_task.ensures,
     )
-

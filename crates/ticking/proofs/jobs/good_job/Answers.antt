@@ -4,14 +4,12 @@ use borrow.Author.Tests.{le-leb, lt-leb}
 use Rattle.table.specs.Tasks.{T}
 use Rattle.machine.specs.Conditions.{good_job}
 use Rattle.ticking.proofs.TickTurns.{stage-runs, stage-idles, stage-waits, stage-none}
-use borrow.Author.Rules.{rules}
 use Rattle.ticking.proofs.jobs.good_job.Goals as goal
 
 pub returns-then-task-j : goal.returns-then-task-j
 unfolding good_job
 returns-then-task-j c =
     rw (lt-leb c.args.j.age (T c.args.task) (omega arith))
-
 
 pub returns-then-is_running : goal.returns-then-is_running
 unfolding good_job
@@ -22,7 +20,6 @@ returns-then-is_running c =
     )
     c.runs_well.ensures
 
-
 pub returns-then-is_idle : goal.returns-then-is_idle
 unfolding good_job
 returns-then-is_idle c =
@@ -32,7 +29,6 @@ returns-then-is_idle c =
     )
     c.idles_well.ensures
 
-
 pub returns-then-is_waiting : goal.returns-then-is_waiting
 unfolding good_job
 returns-then-is_waiting c =
@@ -41,7 +37,6 @@ returns-then-is_waiting c =
       stage-waits _ _ _ _ (sym c.is_waiting.ensures ∙ c.if-is_waiting.true),
     )
     c.has_nothing.ensures
-
 
 pub returns : goal.returns
 unfolding good_job
@@ -53,4 +48,3 @@ returns c =
           (sym c.is_idle.ensures ∙ c.if-is_idle.false)
           (sym c.is_waiting.ensures ∙ c.if-is_waiting.false),
     )
-

@@ -1,8 +1,6 @@
-use borrow.Author.Tests.{not-true, not-false}
 use mathlib.Core.Path.{◌≡◌, sym, ◌∙◌}
 use mathlib.Core.Bool.{true, false}
 use Rattle.machine.specs.Conditions.{has_nothing}
-use borrow.Author.Rules.{rules}
 use Rattle.ticking.proofs.jobs.idles_well.Goals as goal
 
 pub returns-then-not-has_nothing : goal.returns-then-not-has_nothing
@@ -11,10 +9,8 @@ returns-then-not-has_nothing c =
     sym c.has_nothing.ensures ∙ c.if-not-has_nothing.true in
     rw e
 
-
 pub returns : goal.returns
 returns c =
     let e : has_nothing c.args.j ≡ true =
     sym c.has_nothing.ensures ∙ c.if-not-has_nothing.false in
     rw e
-

@@ -6,13 +6,11 @@ use Rattle.table.specs.declared.Partitions.{Partitions}
 use Rattle.table.specs.Limits.{most_partitions}
 use Rattle.table.specs.Tasks.{C, A}
 use Rattle.sets.specs.Sets.{size}
-use borrow.Author.Rules.{rules}
 use Rattle.ticking.proofs.jobs.runs_well.Goals as goal
 
 pub returns-then-task-j : goal.returns-then-task-j
 returns-then-task-j c =
     rw (lt-leb c.args.j.ran (C c.args.task - 1) (omega arith))
-
 
 pub returns-then-j : goal.returns-then-j
 returns-then-j c =
@@ -20,7 +18,6 @@ returns-then-j c =
       le-leb c.args.j.ran (C c.args.task - 1) (omega arith),
       lt-leb c.args.j.ran c.args.j.age (omega arith),
     )
-
 
 pub returns-then-held-task : goal.returns-then-held-task
 returns-then-held-task c =
@@ -31,7 +28,6 @@ returns-then-held-task c =
       le-leb c.args.j.ran c.args.j.age (omega arith),
       ne_eqb (size most_partitions c.args.j.held) (A c.args.task) ne,
     )
-
 
 pub returns : goal.returns
 returns c =
@@ -47,4 +43,3 @@ returns c =
       c.below.ensures,
       least,
     )
-

@@ -1,17 +1,14 @@
 use mathlib.Core.Path.{sym, ◌∙◌}
-use borrow.Author.Tests.{eq-eqb, ne_eqb, not-true, not-false}
+use borrow.Author.Tests.{eq-eqb, ne_eqb}
 use Rattle.ticking.specs.Code.Passes.{found_refusal}
-use borrow.Author.Rules.{rules}
 use Rattle.ticking.proofs.judging.refusal_of.Goals as goal
 
 pub returns-then-not-finds_good : goal.returns-then-not-finds_good
 unfolding found_refusal
 returns-then-not-finds_good c = rw (sym c.finds_good.ensures ∙ c.if-not-finds_good.true) c.refusal.ensures
 
-
 pub first_above-nine-requires : goal.first_above-nine-requires
 first_above-nine-requires c = c.requires (sym c.finds_good.ensures ∙ c.if-not-finds_good.false)
-
 
 pub returns-then-nine-ne0 : goal.returns-then-nine-ne0
 unfolding found_refusal
@@ -22,7 +19,6 @@ returns-then-nine-ne0 c =
       ne_eqb _ _ c.if-nine-ne0.true,
     ) c.refusal-then-nine-ne0.ensures
 
-
 pub returns : goal.returns
 unfolding found_refusal
 returns c =
@@ -31,4 +27,3 @@ returns c =
       sym c.first_above-nine.ensures,
       eq-eqb _ _ c.if-nine-ne0.false,
     )
-

@@ -1,16 +1,13 @@
 use native.Mathlib.Omega.{arith}
 use borrow.Author.Tests.{eq-eqb, ne_eqb, le-leb, lt-leb}
-use borrow.Author.Rules.{rules}
 use Rattle.ticking.proofs.refusing.first_of.Goals as goal
 
 pub returns-then-number-eq0 : goal.returns-then-number-eq0
 returns-then-number-eq0 c = rw (eq-eqb _ _ c.if-number-eq0.true)
 
-
 pub returns-then-r-eq0 : goal.returns-then-r-eq0
 returns-then-r-eq0 c =
     rw (ne_eqb _ _ c.if-number-eq0.false, eq-eqb _ _ c.if-r-eq0.true) c.refusal.ensures
-
 
 pub returns-then-r-number : goal.returns-then-r-number
 returns-then-r-number c = rw (
@@ -19,7 +16,6 @@ returns-then-r-number c = rw (
   le-leb _ _ c.if-r-number.true,
 )
 
-
 pub returns : goal.returns
 returns c =
     rw (
@@ -27,4 +23,3 @@ returns c =
       ne_eqb _ _ c.if-r-eq0.false,
       lt-leb c.args.r.number c.args.number (omega arith),
     ) c.refusal-2.ensures
-

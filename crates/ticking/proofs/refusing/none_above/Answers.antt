@@ -11,9 +11,7 @@ use Rattle.ticking.proofs.refusing.none_above.Goals as goal
 pub returns-then-n-lt-MOST : goal.returns-then-n-lt-MOST
 returns-then-n-lt-MOST c = none_from c.args.x c.args.n
 
-
 pub returns : goal.returns
 returns c =
     let w : c.args.x < 2 ^ 32 = search rules in
     sym (lt-ltb _ _ (lt_of_lt_of_le w (pow_mono {i = 32} (omega arith))))
-

@@ -1,5 +1,6 @@
 // What the program "ticks" writes: the ticks of a text on the fresh machine of a table.
 #![tactic(auto)]
+
 ghost use Rattle.std.specs.Prelude.{◌+◌, ◌*◌, ◌<◌, ◌≤◌, ◌≡◌, leb, length};
 ghost use Rattle.forms.specs.Forms.{ticks_form};
 ghost use Rattle.forms.specs.Reader.{read};

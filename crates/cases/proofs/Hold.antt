@@ -1,7 +1,7 @@
 -- Every case of document 01 and of wish 1 holds of the definitions, by computation. `refl` is given the answers: where
 -- it has to find them, it computes the long rehearsals more than once.
 use mathlib.Core.Path.{◌≡◌, refl}
-use mathlib.Core.List.{List, map, flatten}
+use mathlib.Core.List.{map, flatten}
 use Rattle.maths.specs.Padded.{padded}
 use Rattle.maths.specs.Sums.{sum}
 use Rattle.maths.specs.Tasks.{every, lowest, tabulate}

@@ -25,7 +25,7 @@ use Rattle.machine.specs.declared.Stage.{Stage}
 use Rattle.machine.specs.declared.Ticked.{Ticked}
 use Rattle.machine.specs.Jobs.{job}
 use Rattle.machine.specs.Conditions.{good_state}
-use Rattle.machine.specs.Fresh.{fresh, set_up}
+use Rattle.machine.specs.Fresh.{set_up}
 use Rattle.machine.specs.Tick.{tick_refusal, accepted, refused_answer, tick}
 use Rattle.machine.proofs.StateParts.{Staged, when_good}
 use Rattle.machine.proofs.StateTest.{state-good}

@@ -3,7 +3,6 @@
 use Rattle.std.specs.Prelude.{ℕ, suc, ◌<◌, ◌≡◌, true, List, [], ◌≢◌, length}
 use Rattle.table.specs.declared.Platform.{Platform}
 use Rattle.table.specs.declared.Task.{Task}
-use Rattle.table.specs.declared.Refusal.{Refusal}
 use Rattle.table.specs.Limits.{most_tasks}
 use Rattle.table.specs.Refused.{refusal}
 use Rattle.table.specs.Tasks.{table_of}

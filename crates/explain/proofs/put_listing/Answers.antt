@@ -7,7 +7,7 @@ use Rattle.shares.proofs.Sizes.{explain-fits}
 use Rattle.explain.proofs.put_listing.Goals as goal
 
 pub returns : goal.returns
-returns c =
+returns g c =
     let wrote = c.explain.ensures in
     let inside = wrote_inside _ _ _ _ wrote in
     let all = sym (length-take-le _ _ inside) in

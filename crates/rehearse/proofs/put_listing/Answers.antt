@@ -7,7 +7,7 @@ use Rattle.trials.proofs.Sizes.{rehearse_fits}
 use Rattle.rehearse.proofs.put_listing.Goals as goal
 
 pub returns : goal.returns
-returns c =
+returns g c =
     let wrote = c.rehearse.ensures in
     let inside = wrote_inside _ _ _ _ wrote in
     let all = sym (length-take-le _ _ inside) in

@@ -7,7 +7,7 @@ use Rattle.runs.proofs.Sizes.{ticks_fit}
 use Rattle.ticks.proofs.put_listing.Goals as goal
 
 pub returns : goal.returns
-returns c =
+returns g c =
     let wrote = c.ticks.ensures in
     let inside = wrote_inside _ _ _ _ wrote in
     let all = sym (length-take-le _ _ inside) in

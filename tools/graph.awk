@@ -7,6 +7,7 @@ function read_crates(    i, name) {
     i = index($0, ":")
     if (!i) return
     name = substr($0, 1, i - 1)
+    sub(/ staticlib.*/, "", name)
     gsub(/[ \t]/, "", name)
     crate[++crates] = name
     stands_on[name] = substr($0, i + 1)

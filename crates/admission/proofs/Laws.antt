@@ -88,7 +88,8 @@ pub margins-none : (t : Table) → replicate most_tasks (pos 0) ≡ margins_to t
 unfolding tabulate
 margins-none t = refl
 
-pub margins-more : (t : Table) (k : ℕ) → k < most_tasks → set (margins_to t k) k (margin t (suc k)) ≡ margins_to t (k + 1)
+pub margins-more : (t : Table) (k : ℕ) → k < most_tasks → set (margins_to t k) k (margin t (suc k))
+    ≡ margins_to t (k + 1)
 margins-more t k l =
     let now : cond (leb (suc k) (k + 1)) (margin t (suc k)) (pos 0) ≡ margin t (suc k) =
     rw (le-leb (suc k) (k + 1) (omega arith)) in

@@ -35,7 +35,8 @@ use Rattle.cases.specs.Rows.{paper_cases, bench_cases, cases}
 pub cases_hold : map (λ (c : Case). answered c.asked) cases ≡ map (λ (c : Case). c.expected) cases
 unfolding padded sum every lowest tabulate digits digits_in line lines run grow step rows_at read table_rules row_rules
     rows_from refusal Amax interference load limit less full_answer quick_answer size members set_of set_where union_of
-    all_apart choice running busy fresh good_job good_state for_tasks start_waiting tick_rules first_given tick_refusal tick
+    all_apart choice running busy fresh good_job good_state for_tasks start_waiting tick_rules first_given
+    tick_refusal tick
     listing margin_lines margins_text margin_row taken admit_text verdict run_rows ticks_text flatten
     explain_text gcd_in gcd multiple_to from rehearsal rehearsed ticked_rows after paper_cases bench_cases cases
 cases_hold = refl {a = map (λ (c : Case). c.expected) cases}

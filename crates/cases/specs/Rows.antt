@@ -2,7 +2,8 @@
 -- and the answer that document 01 gives; of "explain", which document 01 does not have, the answer by hand from its
 -- formulas; of a rehearsal (wish 1) what a plain simulation gives. `cases` is proved to give `expected` in
 -- proofs/Hold.antt, from the bytes of the texts on.
-use Rattle.std.specs.Prelude.{ℕ, ◌*◌, ◌/◌, true, cond, List, [], ◌∷◌, ◌++◌, map, ℤ, pos, negsuc, length, replicate, take}
+use Rattle.std.specs.Prelude.{ℕ, ◌*◌, ◌/◌, true, cond, List, [], ◌∷◌}
+use Rattle.std.specs.Prelude.{◌++◌, map, ℤ, pos, negsuc, length, replicate, take}
 use Prim.Native.String.{String}
 use Rattle.maths.specs.Tasks.{entry}
 use Rattle.forms.specs.Bytes.{bytes}

@@ -72,7 +72,8 @@ module _ (done : List (List ℕ)) where
             stuck (step F) (rows_at F) (shift done s) c rest (shift-step s c ∙ ap (mapped (shift done)) e)
             ∙ ap (prefixed done) (sym (stuck (step F) (rows_at F) s c rest e))
         go (some t) e ih =
-            moves (step F) (rows_at F) (shift done s) (shift done t) c rest (shift-step s c ∙ ap (mapped (shift done)) e)
+            moves (step F) (rows_at F) (shift done s) (shift done t) c rest
+            (shift-step s c ∙ ap (mapped (shift done)) e)
             ∙ ap (later 1) (ih t)
             ∙ prefixed-later (run (step F) (rows_at F) t rest)
             ∙ ap (prefixed done) (sym (moves (step F) (rows_at F) s t c rest e))

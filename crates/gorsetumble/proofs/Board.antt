@@ -103,7 +103,8 @@ module _ (platform tasks : List ℕ) where
   means : Means platform tasks (verdict platform tasks)
   unfolding verdict
   means =
-      means_of (read platform_form platform) (read tasks_form tasks) (reads platform_form platform) (reads tasks_form tasks)
+      means_of (read platform_form platform) (read tasks_form tasks) (reads platform_form platform)
+      (reads tasks_form tasks)
 
   exactly : (v : ℕ) → Means platform tasks v → verdict platform tasks ≡ v
   unfolding verdict

@@ -115,4 +115,5 @@ promised m t a reports =
     )
 
 pub demand_3 : LentDemand3
-demand_3 m p rows v = promised m (table_of p rows) (record { whole = length-padded no_task most_tasks rows; verdict = v })
+demand_3 m p rows v = promised m (table_of p rows)
+    (record { whole = length-padded no_task most_tasks rows; verdict = v })

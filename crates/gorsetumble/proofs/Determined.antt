@@ -21,14 +21,16 @@ use Rattle.gorsetumble.specs.declared.texting.TextRefusal.{TextRefusal}
 use Rattle.gorsetumble.specs.FromTexts.{set_up_texts}
 
 module _ (p : Platform) (rows : List Task) where
-  pub full-determined : (r s : FullAnswer) → r ≡ full_answer (table_of p rows) → s ≡ full_answer (table_of p rows) → r ≡ s
+  pub full-determined : (r s : FullAnswer) → r ≡ full_answer (table_of p rows) → s ≡ full_answer (table_of p rows)
+      → r ≡ s
   full-determined = determined (full_answer (table_of p rows))
 
   pub quick_determined : (r s : QuickAnswer) → r ≡ quick_answer (table_of p rows)
       → s ≡ quick_answer (table_of p rows) → r ≡ s
   quick_determined = determined (quick_answer (table_of p rows))
 
-  pub rehearse_determined : (r s : Rehearsal) → r ≡ rehearsed (table_of p rows) → s ≡ rehearsed (table_of p rows) → r ≡ s
+  pub rehearse_determined : (r s : Rehearsal) → r ≡ rehearsed (table_of p rows) → s ≡ rehearsed (table_of p rows) → r
+      ≡ s
   rehearse_determined = determined (rehearsed (table_of p rows))
 
   pub set-up-determined : (m : Machine) (r s : Refusal) (a b : Machine)

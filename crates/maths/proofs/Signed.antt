@@ -28,5 +28,6 @@ fits a b p q = record { sfits = sub-mag a b p q }
 pub difference_fits : (a b : ℕ) → a < 2 ^ 62 → b < 2 ^ 62 → SFits w64 (to_z w64 a -ℤ to_z w64 b)
 difference_fits a b p q = rw (small_pos a p, small_pos b q) (fits a b p q)
 
-pub difference_is : (a b : ℕ) → a < 2 ^ 62 → b < 2 ^ 62 → to_z w64 (of_z w64 (to_z w64 a -ℤ to_z w64 b)) ≡ pos a -ℤ pos b
+pub difference_is : (a b : ℕ) → a < 2 ^ 62 → b < 2 ^ 62 → to_z w64 (of_z w64 (to_z w64 a -ℤ to_z w64 b))
+    ≡ pos a -ℤ pos b
 difference_is a b p q = rw (small_pos a p, small_pos b q) (to_z-of_z (fits a b p q))

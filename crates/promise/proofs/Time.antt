@@ -32,8 +32,10 @@ unfolding quick_answer sum every lowest table_rules row_rules rows_from refusal 
 p1-verdict = refl
 
 pub contended : Contended
-unfolding steps tick tick_refusal first_given tick_rules good_state good_job for_tasks start_waiting fresh running busy sum
-    every lowest tabulate table_rules row_rules rows_from refusal size members set_of set_where union_of all_apart choice
+unfolding steps tick tick_refusal first_given tick_rules good_state good_job for_tasks start_waiting fresh running
+    busy sum
+    every lowest tabulate table_rules row_rules rows_from refusal size members set_of set_where union_of all_apart
+    choice
 contended =
     record { admitted = record { whole = refl; verdict = p1-verdict }; one_tick = refl; started = refl; waits = refl }
 

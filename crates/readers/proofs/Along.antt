@@ -141,7 +141,8 @@ module _ (F : Form) (text : List ℕ) where
           stops = h.stops;
         })
 
-    number-from : (k at v : ℕ) → length text ≤ k + at → NumberedBy at (some v) (number_from m at (some v) (drop at text))
+    number-from : (k at v : ℕ) → length text ≤ k + at
+        → NumberedBy at (some v) (number_from m at (some v) (drop at text))
     number-from zero at v h =
         rw (number-end m text at v (omega arith)) (record { on = refl; stops = λ l. absurd (no l h) })
       where

@@ -34,10 +34,12 @@ module _ (text : List ℕ) (next : ℕ) (word : List ℕ) (i : ℕ) (inside : ne
       rw (drop-cons text next 0 inside, drop-cons word i 0 more) (rw (ne_eqb (get_or text next 0) (get_or word i 0) h))
 
   pub agree-more : get_or text next 0 ≡ get_or word i 0
-      → agree_from next (drop i word) (drop next text) ≡ agree_from (next + 1) (drop (i + 1) word) (drop (next + 1) text)
+      → agree_from next (drop i word) (drop next text)
+      ≡ agree_from (next + 1) (drop (i + 1) word) (drop (next + 1) text)
   unfolding agree_from
   agree-more h = rw (add-one, add-one)
-      (rw (drop-cons text next 0 inside, drop-cons word i 0 more) (rw (eq-eqb (get_or text next 0) (get_or word i 0) h)))
+      (rw (drop-cons text next 0 inside, drop-cons word i 0 more)
+      (rw (eq-eqb (get_or text next 0) (get_or word i 0) h)))
 
 pub digit_low : (c : ℕ) → c < 48 → is_digit c ≡ false
 digit_low c h = rw (lt-leb 48 c h)

@@ -23,7 +23,8 @@ use Rattle.forms.proofs.Sizes.{within_get_d}
 use Rattle.readers.specs.declared.Number.{Number}
 use Rattle.readers.specs.declared.Cell.{Cell}
 use Rattle.readers.specs.declared.Row.{Row}
-use Rattle.readers.specs.Places.{agree_from, agree_at, number_from, number_at, ended_by, cell_at, most_columns, row_from}
+use Rattle.readers.specs.Places.{agree_from, agree_at, number_from, number_at}
+use Rattle.readers.specs.Places.{ended_by, cell_at, most_columns, row_from}
 use Rattle.readers.specs.Places.{row_at}
 use Rattle.readers.specs.Code.Digits.{Narrow}
 
@@ -67,8 +68,11 @@ number-bounded most next v (c ∷ bytes) h =
   where
     go : (o : Option ℕ) → GrownIf most v c o
         → ((w : ℕ) → w ≤ most → Bounded most (suc next) bytes (number_from most (suc next) (some w) bytes))
-        → Bounded most next (c ∷ bytes) (elim o as (λ o. Number)
-        [ none ↦ record { value = Option.get_or v 0; next = next } | some w ↦ number_from most (suc next) (some w) bytes ])
+        → Bounded most next (c ∷ bytes) (elim o as (λ o. Number) [
+          | none ↦ record { value = Option.get_or v 0; next = next }
+          | some w ↦ number_from most (suc next) (some w)
+              bytes
+        ])
     go none f known = record { far = omega arith; low = omega arith; fits = h }
     go (some w) f known = let b = known w f.fits in
         record { far = omega (arith, b.far); low = omega (arith, b.low); fits = b.fits }

@@ -34,7 +34,8 @@ same-task numbers row e =
 
 module _ (kept : List Task) (rows : List (List ℕ)) (n : ℕ) where
   keep-more : (task : Task) (row : List ℕ) → n ≡ length rows → kept ≡ padded most_tasks no_task (map task_of rows)
-      → n < most_tasks → task ≡ task_of row → set kept n task ≡ padded most_tasks no_task (map task_of (rows ++ (row ∷ [])))
+      → n < most_tasks → task ≡ task_of row → set kept n task
+      ≡ padded most_tasks no_task (map task_of (rows ++ (row ∷ [])))
   keep-more task row count keeps less t =
       let size : length (map task_of rows) ≡ n = length-map rows task_of ∙ sym count in
       sym

@@ -45,7 +45,8 @@ module _ (t : Table) where
 pub data Answered (t : Table) : Type 0 where
   own : (refusal t).number ≢ 0 → rehearsed t ≡ refused_by (refusal t) → Answered t
   large : rehearsed t ≡ refused_by (record { number = 17; row = 0 }) → Answered t
-  ticked : (refusal t).number ≡ 0 → multiple t ≤ most_multiple → rehearsed t ≡ went no_refusal (rehearsal t) → Answered t
+  ticked : (refusal t).number ≡ 0 → multiple t ≤ most_multiple → rehearsed t ≡ went no_refusal (rehearsal t)
+      → Answered t
 
 pub answered : (t : Table) → Answered t
 answered t = by (ℕ_discrete (refusal t).number 0) (dec_le (multiple t) most_multiple)

@@ -95,7 +95,8 @@ module _ (L : ℕ) {i : ℕ} {m : Machine} {s : List ℕ} (b : Benched i m s) (c
     kept-each k some in_n =
         let g = b.good in
         rw (entry-started s S k some (in_most m g k some in_n), ← conducted.moves k some in_n)
-        (one-tick (sound-row m g k some in_n) (b.each k some in_n) (has_task (full m) k) (not_late_lem m g k some in_n calm)
+        (one-tick (sound-row m g k some in_n) (b.each k some in_n) (has_task (full m) k)
+        (not_late_lem m g k some in_n calm)
         (has_task R k) (has_task S k) (conducted.allows k some in_n)
         (in_due L i m.table within k some in_n))
 

@@ -57,7 +57,8 @@ module _ (r : Machine) (i : ℕ) (s : List ℕ) where
     pub below : (j : ℕ) → j < k → p.next ≤ next_of (moved_lane (suc j))
     pub above : (x : ℕ) → x ≤ never → ((j : ℕ) → j < k → x ≤ next_of (moved_lane (suc j))) → x ≤ p.next
 
-  pub beginning_none : (lanes : List Lane) (p : Pass) → lanes ≡ tabulate most_tasks readied_lane → p.cores ≡ idle_cores r
+  pub beginning_none : (lanes : List Lane) (p : Pass) → lanes ≡ tabulate most_tasks readied_lane → p.cores
+      ≡ idle_cores r
       → p.partitions ≡ idle_partitions r → p.goes ≡ true → p.late ≡ 0 → p.next ≡ never → Beginning lanes p 0
   unfolding walk
   beginning_none lanes p e c q g l x =

@@ -21,7 +21,8 @@ use Rattle.sets.proofs.Wheres.{where_lt}
 use Rattle.machine.specs.declared.Machine.{Machine}
 use Rattle.machine.specs.declared.Ticked.{Ticked}
 use Rattle.machine.specs.Conditions.{good_state}
-use Rattle.machine.specs.Tick.{tick_rules, first_given, tick_refusal, readied, accepted, accepted_tick, refused_tick, tick}
+use Rattle.machine.specs.Tick.{tick_rules, first_given, tick_refusal, readied}
+use Rattle.machine.specs.Tick.{accepted, accepted_tick, refused_tick, tick}
 use Rattle.machine.proofs.Jobs.{finished-table, readied-table}
 use Rattle.machine.proofs.Queue.{step-table}
 use Rattle.readers.specs.declared.Tick.{Tick}
@@ -78,7 +79,8 @@ unfolding tick_refusal
 accepted-good m released finished e = by (good_state m) (eqb-true _ 0 e)
   where
     by : (b : Bool)
-        → (cond b (first_given (tick_rules m released finished)) (record { number = 14; row = 0 })).number ≡ 0 → b ≡ true
+        → (cond b (first_given (tick_rules m released finished)) (record { number = 14; row = 0 })).number ≡ 0 → b
+        ≡ true
     by true e = refl
     by false e = absurd (omega arith)
 

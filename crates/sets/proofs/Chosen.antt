@@ -84,7 +84,8 @@ choice-is x a = chosen most_partitions x a
 module _ (x a p : ℕ) where
   pub choice_in : p < most_partitions → size p x < a → bit (choice x a) p ≡ bit x p
   choice_in h l =
-      rw (choice-is x a) (where_bit (among x a) most_partitions p h ∙ rw (lt-ltb (size p x) a l, and-true) (has-bit x p))
+      rw (choice-is x a) (where_bit (among x a) most_partitions p h
+      ∙ rw (lt-ltb (size p x) a l, and-true) (has-bit x p))
 
   pub choice-far : most_partitions ≤ p → bit (choice x a) p ≡ 0
   choice-far h = rw (choice-is x a) (where_above (among x a) most_partitions p h)
@@ -93,5 +94,6 @@ module _ (x a p : ℕ) where
   choice-out l = by (dec_lt p most_partitions)
     where
       by : Dec (p < most_partitions) → bit (choice x a) p ≡ 0
-      by (yes h) = rw (choice-is x a) (where_bit (among x a) most_partitions p h ∙ rw (le-ltb (size p x) a l, and-false))
+      by (yes h) = rw (choice-is x a) (where_bit (among x a) most_partitions p h
+          ∙ rw (le-ltb (size p x) a l, and-false))
       by (no h) = choice-far (omega arith)

@@ -20,7 +20,8 @@ apart-within f g n h a i j l m =
 module _ (f g : ℕ → ℕ) (n k : ℕ) (in_n : k < n) (others : (i : ℕ) → i < n → (i ≡ k → ⊥) → g i ≡ f i) where
   pub union-take : f k ≡ 0 → union_of n g ≡ bit_or (union_of n f) (g k)
   union-take e =
-      same (union_of n g) (bit_or (union_of n f) (g k)) (λ p. by p (bit-cases (union_of n g) p) (bit-cases (union_of n f) p))
+      same (union_of n g) (bit_or (union_of n f) (g k))
+      (λ p. by p (bit-cases (union_of n g) p) (bit-cases (union_of n f) p))
     where
       of_f : (p i : ℕ) → i < n → bit (f i) p ≡ 1 → Dec (i ≡ k) → 1 ≤ bit (union_of n g) p
       of_f p i l b (yes w) = absurd (omega (arith, rw (w, e) at b, bit-zero p))

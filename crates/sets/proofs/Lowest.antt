@@ -64,7 +64,8 @@ module _ (x p : ℕ) (low : Lowest x p) where
       let apart : bit_and (2 ^ p) (2 ^ p - 1) ≡ 0 = rw (one-mul (2 ^ p)) at (and_shifted 1 p (2 ^ p - 1) (ones_lt p)) in
       let up : 2 ^ p < 2 ^ suc p = pow-lt (omega arith) in
       let both = and_block (suc p) h h (2 ^ p) (2 ^ p - 1) up (omega (arith, ones_lt p)) in
-      let left : bit_and x (x - 1) ≡ h * 2 ^ suc p = ap₂ bit_and is less ∙ both ∙ rw (and_self h, apart) (omega arith) in
+      let left : bit_and x (x - 1) ≡ h * 2 ^ suc p = ap₂ bit_and is less ∙ both
+      ∙ rw (and_self h, apart) (omega arith) in
       rw (and-within (2 ^ p) x low-within) (left ∙ omega arith)
 
   -- the sizes of x and of x without its lowest
@@ -139,7 +140,8 @@ leaves-step x a h l =
 pub less-le : (x : ℕ) → less x ≤ x
 less-le x = and_le_l x (x - 1)
 
-pub leaves-four : (x a : ℕ) → x < 2 ^ most_partitions → 4 ≤ a → leaves x a ≡ leaves (less (less (less (less x)))) (a - 4)
+pub leaves-four : (x a : ℕ) → x < 2 ^ most_partitions → 4 ≤ a → leaves x a
+    ≡ leaves (less (less (less (less x)))) (a - 4)
 leaves-four x a h l =
     let one = less-le x in
     let two = less-le (less x) in

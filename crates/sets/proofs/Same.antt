@@ -66,7 +66,8 @@ and-within x y h = same (bit_and y x) x (λ p. omega (arith, bit-and y x p, h p)
 -- what was put to a set is taken away again
 pub without_or : (x y : ℕ) → bit_and x y ≡ 0 → without (bit_or x y) y ≡ x
 without_or x y e =
-    same (without (bit_or x y) y) x (λ p. omega (arith, bit-without (bit_or x y) y p, bit-bit_or x y p, disjoint-bit x y p e))
+    same (without (bit_or x y) y) x (λ p. omega
+    (arith, bit-without (bit_or x y) y p, bit-bit_or x y p, disjoint-bit x y p e))
 
 -- two sets are taken away one after the other
 pub without-both : (x y z : ℕ) → without x (bit_or y z) ≡ without (without x y) z

@@ -56,7 +56,8 @@ module _ (held : ℕ → ℕ) where
   pub union-disjoint : (n y : ℕ) → ((i : ℕ) → i < n → bit_and (held i) y ≡ 0) → bit_and (union_of n held) y ≡ 0
   union-disjoint n y h = disjoint_of (union_of n held) y (λ p. by p (bit-cases (union_of n held) p))
     where
-      by : (p : ℕ) → (bit (union_of n held) p ≡ 0) ⊎ (bit (union_of n held) p ≡ 1) → bit (union_of n held) p + bit y p < 2
+      by : (p : ℕ) → (bit (union_of n held) p ≡ 0) ⊎ (bit (union_of n held) p ≡ 1)
+          → bit (union_of n held) p + bit y p < 2
       by p (inl b) = omega (arith, bit_lt y p)
       by p (inr b) =
           let m = union-some n p b in

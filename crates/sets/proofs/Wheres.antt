@@ -67,7 +67,8 @@ module _ (f : ℕ → Bool) where
       by true e (inl w) r =
           rw (w, ← add-one n, where_or n e, e)
           (omega (arith, bit-bit_or (set_where f n) (2 ^ n) n, bit_pow_same n, bit_lt (set_where f n) n))
-      by true e (inr w) r = rw (← add-one n, where_or n e, bit-bit_or, bit_pow_other n p (omega arith)) (omega (arith, r w))
+      by true e (inr w) r = rw (← add-one n, where_or n e, bit-bit_or, bit_pow_other n p (omega arith))
+          (omega (arith, r w))
       by false e (inl w) r = rw (w, ← add-one n, where_out n e, e) (where_above n n (omega arith))
       by false e (inr w) r = rw (← add-one n, where_out n e) (r w)
 

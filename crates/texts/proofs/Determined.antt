@@ -22,7 +22,8 @@ module _ (there : Bool) (text : List ℕ) where
 
 module _ (platform tasks : List ℕ) where
   pub take-table-determined : (platformThere tasksThere : Bool) (r s : TableRead)
-      → r ≡ table_taken platformThere platform tasksThere tasks → s ≡ table_taken platformThere platform tasksThere tasks
+      → r ≡ table_taken platformThere platform tasksThere tasks → s
+      ≡ table_taken platformThere platform tasksThere tasks
       → r ≡ s
   take-table-determined platformThere tasksThere = determined (table_taken platformThere platform tasksThere tasks)
 

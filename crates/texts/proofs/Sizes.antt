@@ -91,7 +91,8 @@ margin-most k (negsuc n) h s = cells-most k (suc n) 0 true h (omega arith) (omeg
 margin-most k (pos zero) h s = cells-most k 0 0 false h (omega arith) (omega arith)
 margin-most k (pos (suc n)) h s = cells-most k (suc n) 1 false h (omega arith) (omega arith)
 
-lines-most : (k : ℕ) (zs : List ℤ) → k + length zs ≤ 100 → ((i : ℕ) → i < length zs → mag (get_or zs i (pos 0)) < 2 ^ 63)
+lines-most : (k : ℕ) (zs : List ℤ) → k + length zs ≤ 100
+    → ((i : ℕ) → i < length zs → mag (get_or zs i (pos 0)) < 2 ^ 63)
     → length (margin_lines k zs) ≤ 27 * length zs
 unfolding margin_lines
 lines-most k [] h small = omega arith

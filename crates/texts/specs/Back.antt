@@ -39,7 +39,8 @@ pub record WritesBack : Type 0 where
   pub platform_back : (p : Platform) → NarrowPlatform p
       → platform_read (read platform_form (platform_text p)) ≡ record { refused = no_refusal; platform = p }
   pub tasks_back : (t : Table) → NarrowRows t
-      → table_read t.platform (read tasks_form (tasks_text t)) ≡ record { refused = no_refusal; table = table_written t }
+      → table_read t.platform (read tasks_form (tasks_text t))
+      ≡ record { refused = no_refusal; table = table_written t }
   pub ticks_back : (released finished : List ℕ) → NarrowTicks released finished
       → read ticks_form (reports_text released finished) ≡ found (tick_rows released finished)
   -- of at most 32 tasks that is the table's n and first n rows, and the table itself where entries past n are zero

@@ -20,7 +20,8 @@ use Rattle.ticking.specs.declared.Past.{Past}
 use Rattle.ticking.specs.declared.Walk.{Walk}
 use Rattle.machine.specs.Jobs.{no_job, job}
 use Rattle.machine.specs.Conditions.{good_state}
-use Rattle.ticking.specs.Code.Passes.{look_start, look_with, past_start, past_with, past_none, found_good, found_refusal}
+use Rattle.ticking.specs.Code.Passes.{look_start, look_with, past_start}
+use Rattle.ticking.specs.Code.Passes.{past_with, past_none, found_good, found_refusal}
 use Rattle.ticking.specs.Code.Passes.{walk_start, walk_with}
 use Rattle.machine.specs.Tick.{tick_refusal, accepted, tick}
 use Rattle.machine.proofs.StateTest.{state-good}
@@ -133,7 +134,8 @@ module _ (m : Machine) (released finished : ℕ) where
     module _ (l : i < moved) where
       here : get_or jobs i no_job ≡ job m (suc i)
       here = rw v.stored
-          (up-past most_tasks (λ k. (turns_of m released finished k).job) (job m) i i no_job (omega arith) (omega arith))
+          (up-past most_tasks (λ k. (turns_of m released finished k).job) (job m) i i no_job (omega arith)
+          (omega arith))
 
       pub moving_turn : ((get_or jobs i no_job).ran ≤ longest_period) × ((get_or jobs i no_job).age ≤ longest_period)
           × (D (τ m.table (suc i)) ≤ T (τ m.table (suc i)))

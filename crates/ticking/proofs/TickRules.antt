@@ -93,7 +93,8 @@ some n = ne_eqb (suc n) 0 (λ e. absurd (omega arith))
 
 first_more : (k a b c d : ℕ) (w x y z : Bool)
     → first_of (given_refusal 0 (given_of a b c d)) (numbered w x y z) (suc k)
-    ≡ given_refusal 0 (given_of (or_else a (cond w (suc k) 0)) (or_else b (cond x (suc k) 0)) (or_else c (cond y (suc k) 0))
+    ≡ given_refusal 0 (given_of (or_else a (cond w (suc k) 0)) (or_else b (cond x (suc k) 0))
+    (or_else c (cond y (suc k) 0))
     (or_else d (cond z (suc k) 0)))
 unfolding given_refusal
 first_more k (suc a) b c d true x y z = simp some

@@ -25,8 +25,10 @@ use Rattle.sets.proofs.Wheres.{where_none, tasks_or, tasks-out}
 use Rattle.machine.specs.declared.Job.{Job}
 use Rattle.machine.specs.declared.Machine.{Machine}
 use Rattle.ticking.specs.declared.Walk.{Walk}
-use Rattle.machine.specs.Jobs.{is_waiting, is_running, job, waits, waiting, running, idle_set, idle_cores, idle_partitions}
-use Rattle.machine.specs.Steps.{first_waiting, fits_in, fits, pick, begun, start, start_picked, start_waiting, start_all}
+use Rattle.machine.specs.Jobs.{is_waiting, is_running, job, waits}
+use Rattle.machine.specs.Jobs.{waiting, running, idle_set, idle_cores, idle_partitions}
+use Rattle.machine.specs.Steps.{first_waiting, fits_in, fits, pick}
+use Rattle.machine.specs.Steps.{begun, start, start_picked, start_waiting, start_all}
 use Rattle.ticking.specs.Code.Passes.{tries, has_room, walk_go, walk_by}
 use Rattle.machine.proofs.StateParts.{not-both}
 use Rattle.machine.proofs.Queue.{pick_first, fewer_wait, more-run, less-idle, start-turn, some_wait}

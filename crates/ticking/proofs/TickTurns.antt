@@ -104,7 +104,8 @@ job_or a b =
     (four (is_idle a.stage) (is_idle b.stage) (eqb a.age 0) (eqb b.age 0) (eqb a.ran 0) (eqb b.ran 0)
     (eqb a.held 0) (eqb b.held 0))
 
-pub past_more : (τ : Task) (j : Job) (p : Past) → past_none (past_with τ j p) ≡ (past_none p && (is_no_task τ && is_no_job j))
+pub past_more : (τ : Task) (j : Job) (p : Past) → past_none (past_with τ j p)
+    ≡ (past_none p && (is_no_task τ && is_no_job j))
 past_more τ j p =
     ap (λ (x : Bool). x && is_no_job (or_job p.job j)) (task_or p.row τ)
     ∙ (ap (λ (x : Bool). (is_no_task p.row && is_no_task τ) && x) (job_or p.job j)

@@ -23,7 +23,8 @@ unfolding margins_text
 margins-split margins n = refl
 
 pub margins-more : (margins : List ℤ) (n i : ℕ) → i < n → n ≤ length margins
-    → margins_from margins n i ≡ margin_row (i + 1) (margin_of (get_or margins i (pos 0))) ++ margins_from margins n (i + 1)
+    → margins_from margins n i ≡ margin_row (i + 1) (margin_of (get_or margins i (pos 0)))
+    ++ margins_from margins n (i + 1)
 unfolding margin_lines
 margins-more margins n i less fits = rw (front (pos 0) n margins i less fits) (rw add-one)
 

@@ -31,7 +31,8 @@ module _ (numbers : List ℕ) (j : ℕ) (less : j < length numbers) where
       let size : length (drop (suc j) numbers) ≡ length numbers - j - 1 = length-drop (suc j) numbers ∙ omega arith in
       rw add-one
       (rw (drop-cons numbers j 0 less) (rw size
-      (sym (append_assoc (digits (get_or numbers j 0)) (ending (length numbers - j - 1)) (line (drop (suc j) numbers))))))
+      (sym (append_assoc (digits (get_or numbers j 0)) (ending (length numbers - j - 1))
+      (line (drop (suc j) numbers))))))
 
   pub line_on : (room : ℕ) (x : Room) → x ≡ room_for (piece numbers j) room → x.enough ≡ true
       → room_for (line (drop j numbers)) room ≡ room_for (line (drop (j + 1) numbers)) x.left

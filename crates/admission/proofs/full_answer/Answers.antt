@@ -100,7 +100,8 @@ loop-k-preserved c =
     c.limited-l.ensures ∙ limit_is l.good l.task l.measures in
     let sum : c.loop-i.load ≡ load t (suc k) = l.is ∙ rw at-end (load-all t (suc k)) in
     let is : to_z w64 (of_z w64 c.difference-margin.result) ≡ margin t (suc k) =
-    to_z-of_z {w = w64} (record { sfits = c.difference-margin.type_inv }) ∙ (c.difference-margin.ensures ∙ rw (top, sum)) in (
+    to_z-of_z {w = w64} (record { sfits = c.difference-margin.type_inv })
+    ∙ (c.difference-margin.ensures ∙ rw (top, sum)) in (
       search rules,
       rw (is, c.loop-k.invariant.1) (margins-more t k (omega (arith, l.good.sizes.few, l.task))),
       c.first_with-first.ensures ∙ rw (is, c.loop-k.invariant.2) (sym (lowest-more (λ j. not (passes t j)) k)),
@@ -111,4 +112,5 @@ loop-k-preserved c =
 pub returns : goal.returns
 returns c =
     let at-end : c.loop-k.k ≡ c.args.t.n = omega arith in
-    c.full_judged.ensures ∙ rw (c.loop-k.invariant.1, at-end) (full_is c.loop-k.invariant.4 (c.loop-k.invariant.2 ∙ rw at-end))
+    c.full_judged.ensures ∙ rw (c.loop-k.invariant.1, at-end)
+    (full_is c.loop-k.invariant.4 (c.loop-k.invariant.2 ∙ rw at-end))

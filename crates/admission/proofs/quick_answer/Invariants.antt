@@ -24,7 +24,8 @@ decreases-loop-i l = l.n - l.i
 
 abbrev pub invariant-tasks : goal.invariant-tasks
 invariant-tasks l =
-    (l.k ≤ l.n) × (lowest l.k (λ j. not (passes l.t j)) ≡ 0) × (l.most.0 ≡ Amax l.t l.k) × Unrefused l.t × (l.answer ≡ quick_judged 0)
+    (l.k ≤ l.n) × (lowest l.k (λ j. not (passes l.t j)) ≡ 0) × (l.most.0 ≡ Amax l.t l.k) × Unrefused l.t
+    × (l.answer ≡ quick_judged 0)
 
 abbrev pub decreases-tasks : goal.decreases-tasks
 decreases-tasks l = l.n - l.k

@@ -46,8 +46,10 @@ loop-at-preserved c =
     let test = c.loop-at-test.true in
     let good = not-false _ c.if-not-r.false in
     elim c.if-n-lt-MOST.branch [
-      | then-n-lt-MOST w ↦ rw w.rows-is (here-kept _ _ _ _ c.loop-at.invariant test _ c.row_at-r.ensures good w.if-n-lt-MOST.true _ w.task_of.ensures)
-      | else-n-lt-MOST w ↦ rw w.rows-is (here-full _ _ _ _ c.loop-at.invariant test _ c.row_at-r.ensures good w.if-n-lt-MOST.false)
+      | then-n-lt-MOST w ↦ rw w.rows-is (here-kept _ _ _ _ c.loop-at.invariant test _ c.row_at-r.ensures good
+          w.if-n-lt-MOST.true _ w.task_of.ensures)
+      | else-n-lt-MOST w ↦ rw w.rows-is (here-full _ _ _ _ c.loop-at.invariant test _ c.row_at-r.ensures good
+          w.if-n-lt-MOST.false)
     ]
 
 pub returns : goal.returns

@@ -17,7 +17,11 @@ use Rattle.rehearsing.proofs.run.Goals.{then-not-rests, else-not-rests, then-tri
 
 pub loop-pass-init : goal.loop-pass-init
 loop-pass-init c =
-    let taken : Unrefused c.args.t = record { whole = search (len_mapped, rules); unrefused = eqb-true _ 0 c.requires.0 } in
+    let taken : Unrefused c.args.t = record {
+      whole = search (len_mapped, rules);
+      unrefused = eqb-true _ 0
+          c.requires.0;
+    } in
     let good = good_of c.args.t taken.whole taken.unrefused in (
       good.sizes.few,
       rehearsing_none c.args.t taken c.args.l _ _ c.requires.1 c.requires.2

@@ -55,19 +55,26 @@ pub loop-run-preserved : goal.loop-run-preserved
 loop-run-preserved c =
     let on = going_on c.args.s.now c.loop-run.run c.loop-run.invariant.0
     c.on-run.result c.loop-run.invariant.1 c.loop-run-test.true c.on-run.ensures in
-    let room = put-room (to_come c.start-run.result (ticks_in c.args.s.now)) (head c.args.m c.args.s.now _ _ c.start-run.ensures c.requires.1 _ _ c.add_word-next.ensures) (fits c.args.m c.args.s.now _ _ c.start-run.ensures c.requires.1) in
-    let row : Put c.loop-run.out c.loop-run.next (line c.on-run.result.line) c.add_line-next.result c.add_line-next.new.buf =
-    put_added _ _ _ _ _ (putting_room c.loop-run.invariant.3 (line c.on-run.result.line) (to_come c.on-run.result on.more)
+    let room = put-room (to_come c.start-run.result (ticks_in c.args.s.now))
+    (head c.args.m c.args.s.now _ _ c.start-run.ensures c.requires.1 _ _ c.add_word-next.ensures)
+    (fits c.args.m c.args.s.now _ _ c.start-run.ensures c.requires.1) in
+    let row : Put c.loop-run.out c.loop-run.next (line c.on-run.result.line) c.add_line-next.result
+    c.add_line-next.new.buf =
+    put_added _ _ _ _ _ (putting_room c.loop-run.invariant.3 (line c.on-run.result.line)
+    (to_come c.on-run.result on.more)
     on.comes room) c.add_line-next.ensures in
     (on.more, on.going, put-length row ∙ c.loop-run.invariant.2, putting_more c.loop-run.invariant.3 on.comes row)
 
 pub shape_of-out : goal.shape_of-out
 shape_of-out c =
-    c.loop-run.invariant.2 ∙ put-length (head c.args.m c.args.s.now _ _ c.start-run.ensures c.requires.1 _ _ c.add_word-next.ensures)
+    c.loop-run.invariant.2 ∙ put-length (head c.args.m c.args.s.now _ _ c.start-run.ensures c.requires.1 _ _
+    c.add_word-next.ensures)
 
 pub returns : goal.returns
 returns c =
     let args = c.args in
-    let none = going_end args.s.now c.loop-run.run c.loop-run.invariant.0 c.loop-run.invariant.1 c.loop-run-test.false in
+    let none = going_end args.s.now c.loop-run.run c.loop-run.invariant.0 c.loop-run.invariant.1
+    c.loop-run-test.false in
     rw (run-split args.m (ticks_in args.s.now) _ c.start-run.ensures)
-    (put_then (head c.args.m c.args.s.now _ _ c.start-run.ensures c.requires.1 _ _ c.add_word-next.ensures) (putting_end c.loop-run.invariant.3 none))
+    (put_then (head c.args.m c.args.s.now _ _ c.start-run.ensures c.requires.1 _ _ c.add_word-next.ensures)
+    (putting_end c.loop-run.invariant.3 none))

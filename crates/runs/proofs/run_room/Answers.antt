@@ -42,7 +42,8 @@ pub returns-then-not-row : goal.returns-then-not-row
 returns-then-not-row c =
     room-halt _ _ _ _ c.line_room-row.ensures (not-true _ c.if-not-row.true)
     ∙ sym (whole c.args.m c.args.s.now c.args.room _ _ c.start-run.ensures c.word_room-head.ensures
-    (not-false _ c.if-not-head.false) ∙ c.loop-run.invariant.2 ∙ ap (λ (l : List ℕ). room_for l c.loop-run.left) (going_on c.args.s.now c.loop-run.run c.loop-run.invariant.0
+    (not-false _ c.if-not-head.false) ∙ c.loop-run.invariant.2
+    ∙ ap (λ (l : List ℕ). room_for l c.loop-run.left) (going_on c.args.s.now c.loop-run.run c.loop-run.invariant.0
     c.on-run.result c.loop-run.invariant.1 c.loop-run-test.true c.on-run.ensures).comes)
 
 pub loop-run-smaller : goal.loop-run-smaller
@@ -67,6 +68,8 @@ loop-run-preserved c =
 pub returns : goal.returns
 returns c =
     let args = c.args in
-    let none = going_end args.s.now c.loop-run.run c.loop-run.invariant.0 c.loop-run.invariant.1 c.loop-run-test.false in
+    let none = going_end args.s.now c.loop-run.run c.loop-run.invariant.0 c.loop-run.invariant.1
+    c.loop-run-test.false in
     sym (whole c.args.m c.args.s.now c.args.room _ _ c.start-run.ensures c.word_room-head.ensures
-    (not-false _ c.if-not-head.false) ∙ c.loop-run.invariant.2 ∙ ap (λ (l : List ℕ). room_for l c.loop-run.left) none ∙ room-none c.loop-run.left)
+    (not-false _ c.if-not-head.false) ∙ c.loop-run.invariant.2 ∙ ap (λ (l : List ℕ). room_for l c.loop-run.left) none
+    ∙ room-none c.loop-run.left)

@@ -30,7 +30,8 @@ returns-then-t-ne0 c =
 
 pub returns-then-k-ne0 : goal.returns-then-k-ne0
 returns-then-k-ne0 c =
-    rw (tries _ _ _ _ _ _ _ c.take_table-t.ensures c.if-t-ne0.false ∙ ticks-bad (taken ticks_form _ _) c.take_ticks-k.result _ c.take_ticks-k.ensures
+    rw (tries _ _ _ _ _ _ _ c.take_table-t.ensures c.if-t-ne0.false
+    ∙ ticks-bad (taken ticks_form _ _) c.take_ticks-k.result _ c.take_ticks-k.ensures
     c.if-k-ne0.true) c.write_refused-then-k-ne0.ensures
 
 pub write_ran-requires : goal.write_ran-requires
@@ -39,5 +40,6 @@ write_ran-requires c =
 
 pub returns : goal.returns
 returns c =
-    rw (tries _ _ _ _ _ _ _ c.take_table-t.ensures c.if-t-ne0.false ∙ ap (λ (x : Answer (List (List ℕ))). ran x c.take_table-t.result.table)
+    rw (tries _ _ _ _ _ _ _ c.take_table-t.ensures c.if-t-ne0.false
+    ∙ ap (λ (x : Answer (List (List ℕ))). ran x c.take_table-t.result.table)
     (ticks-good _ _ _ c.take_ticks-k.ensures c.if-k-ne0.false).0) c.write_ran.ensures

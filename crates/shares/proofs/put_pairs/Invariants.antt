@@ -8,7 +8,8 @@ use Rattle.shares.proofs.put_pairs.Given as goal
 
 abbrev pub invariant-loop-at : goal.invariant-loop-at
 invariant-loop-at l =
-    (l.at ≤ l.rows) × (length l.out ≡ length l.initial.out) × Putting l.initial.out l.initial.next (pairs_from l.t 0) l.out l.next (pairs_from l.t l.at)
+    (l.at ≤ l.rows) × (length l.out ≡ length l.initial.out)
+    × Putting l.initial.out l.initial.next (pairs_from l.t 0) l.out l.next (pairs_from l.t l.at)
 
 abbrev pub decreases-loop-at : goal.decreases-loop-at
 decreases-loop-at l = l.rows - l.at

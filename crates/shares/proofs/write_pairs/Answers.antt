@@ -11,4 +11,5 @@ put_pairs-end-requires c = (c.requires, fits-is _ _ _ c.pairs_room-m.ensures (no
 
 pub returns : goal.returns
 returns c =
-    wrote_put _ _ _ _ _ refl (fits-is _ _ _ c.pairs_room-m.ensures (not-false _ c.if-not-m.false)) c.put_pairs-end.ensures
+    wrote_put _ _ _ _ _ refl (fits-is _ _ _ c.pairs_room-m.ensures (not-false _ c.if-not-m.false))
+    c.put_pairs-end.ensures

@@ -14,7 +14,8 @@ use Rattle.texts.proofs.Answers.{answer-refused, answer-margins}
 use Rattle.texts.proofs.Given.{taken-bad, taken-good}
 use Rattle.texts.proofs.admit.Goals as goal
 
-judges : (platform_there : Bool) (platform : List ℕ) (tasks_there : Bool) (tasks : List ℕ) (t : TableRead) (a : FullAnswer)
+judges : (platform_there : Bool) (platform : List ℕ) (tasks_there : Bool) (tasks : List ℕ) (t : TableRead)
+    (a : FullAnswer)
     → t ≡ table_taken platform_there platform tasks_there tasks → t.refused.number ≡ 0 → a ≡ full_answer t.table
     → admit_text platform_there platform tasks_there tasks ≡ answer_text t.table.n a
 unfolding admit_text
@@ -30,10 +31,12 @@ returns-then-t-ne0 c =
 
 pub returns-then-a-ne0 : goal.returns-then-a-ne0
 returns-then-a-ne0 c =
-    rw (judges _ _ _ _ _ _ c.take_table-t.ensures c.if-t-ne0.false c.full_answer-a.ensures ∙ answer-refused _ c.full_answer-a.result c.if-a-ne0.true)
+    rw (judges _ _ _ _ _ _ c.take_table-t.ensures c.if-t-ne0.false c.full_answer-a.ensures
+    ∙ answer-refused _ c.full_answer-a.result c.if-a-ne0.true)
     c.write_refused-then-a-ne0.ensures
 
 pub returns : goal.returns
 returns c =
-    rw (judges _ _ _ _ _ _ c.take_table-t.ensures c.if-t-ne0.false c.full_answer-a.ensures ∙ answer-margins _ c.full_answer-a.result c.if-a-ne0.false)
+    rw (judges _ _ _ _ _ _ c.take_table-t.ensures c.if-t-ne0.false c.full_answer-a.ensures
+    ∙ answer-margins _ c.full_answer-a.result c.if-a-ne0.false)
     c.write_margins.ensures

@@ -110,7 +110,12 @@ past_start = record { row = no_task; job = no_job }
 
 abbrev pub or_task : Task → Task → Task
 or_task a b =
-    record { d = bit_or (D a) (D b); t = bit_or (T a) (T b); c = bit_or (C a) (C b); a = record { 0 = bit_or (A a) (A b) } }
+    record {
+      d = bit_or (D a) (D b);
+      t = bit_or (T a) (T b);
+      c = bit_or (C a) (C b);
+      a = record { 0 = bit_or (A a) (A b) };
+    }
 
 abbrev pub or_job : Job → Job → Job
 or_job a b =

@@ -18,4 +18,5 @@ pub put_row-requires : goal.put_row-requires
 put_row-requires c = room_at c.args.buf.now _ _ c.if-buf-at.false _ c.line_room-m.ensures (not-false _ c.if-not-m.false)
 
 pub returns : goal.returns
-returns c = added_put _ _ _ _ _ (room_at c.args.buf.now _ _ c.if-buf-at.false _ c.line_room-m.ensures (not-false _ c.if-not-m.false)) c.put_row.ensures
+returns c = added_put _ _ _ _ _ (room_at c.args.buf.now _ _ c.if-buf-at.false _ c.line_room-m.ensures
+    (not-false _ c.if-not-m.false)) c.put_row.ensures

@@ -13,7 +13,9 @@ returns-then-not-m c = added_none _ _ _ (short-at c.args.buf.now _ _
     c.if-buf-at.false _ c.word_room-m.ensures (not-true _ c.if-not-m.true))
 
 pub put_word-requires : goal.put_word-requires
-put_word-requires c = room_at c.args.buf.now _ _ c.if-buf-at.false _ c.word_room-m.ensures (not-false _ c.if-not-m.false)
+put_word-requires c = room_at c.args.buf.now _ _ c.if-buf-at.false _ c.word_room-m.ensures
+    (not-false _ c.if-not-m.false)
 
 pub returns : goal.returns
-returns c = added_put _ _ _ _ _ (room_at c.args.buf.now _ _ c.if-buf-at.false _ c.word_room-m.ensures (not-false _ c.if-not-m.false)) c.put_word.ensures
+returns c = added_put _ _ _ _ _ (room_at c.args.buf.now _ _ c.if-buf-at.false _ c.word_room-m.ensures
+    (not-false _ c.if-not-m.false)) c.put_word.ensures

@@ -36,14 +36,16 @@ pub returns-then-room-size : goal.returns-then-room-size
 returns-then-room-size c =
     let n = c.args.n in let left = c.args.left in
     let size : c.if-left-eq0.size ≡ length (digits n ++ ending left) =
-    size_is n left c.width-size.result c.if-left-eq0.size c.width-size.ensures (search rules) (search rules) (search rules) in
+    size_is n left c.width-size.result c.if-left-eq0.size c.width-size.ensures (search rules) (search rules)
+    (search rules) in
     sym (room-short _ _ (omega arith))
 
 pub returns : goal.returns
 returns c =
     let n = c.args.n in let left = c.args.left in
     let size : c.if-left-eq0.size ≡ length (digits n ++ ending left) =
-    size_is n left c.width-size.result c.if-left-eq0.size c.width-size.ensures (search rules) (search rules) (search rules) in
+    size_is n left c.width-size.result c.if-left-eq0.size c.width-size.ensures (search rules) (search rules)
+    (search rules) in
     let args = c.args in
     let text = digits args.n ++ ending args.left in
     rw size (sym (room-enough text args.room (omega arith)))

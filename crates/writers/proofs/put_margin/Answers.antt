@@ -26,7 +26,8 @@ room k m at size h = h
 
 pub put_cell-task-requires : goal.put_cell-task-requires
 put_cell-task-requires c =
-    first_fits (digits c.args.k ++ ending 2) (first c.args.m) c.args.at _ (room c.args.k c.args.m c.args.at _ c.requires)
+    first_fits (digits c.args.k ++ ending 2) (first c.args.m) c.args.at _
+    (room c.args.k c.args.m c.args.at _ c.requires)
 
 pub put_sign-sign-requires : goal.put_sign-sign-requires
 put_sign-sign-requires c =
@@ -38,13 +39,15 @@ pub put_cell-margin-requires : goal.put_cell-margin-requires
 put_cell-margin-requires c =
     let m = c.args.m in
     first_fits (digits m.size ++ ending 1) (third m) _ _
-    (put-room (second m) c.put_sign-sign.ensures (put-room (first m) c.put_cell-task.ensures (room c.args.k c.args.m c.args.at _ c.requires)))
+    (put-room (second m) c.put_sign-sign.ensures
+    (put-room (first m) c.put_cell-task.ensures (room c.args.k c.args.m c.args.at _ c.requires)))
 
 pub put_cell-requires : goal.put_cell-requires
 put_cell-requires c =
     let m = c.args.m in
     put-room (third m) c.put_cell-margin.ensures
-    (put-room (second m) c.put_sign-sign.ensures (put-room (first m) c.put_cell-task.ensures (room c.args.k c.args.m c.args.at _ c.requires)))
+    (put-room (second m) c.put_sign-sign.ensures
+    (put-room (first m) c.put_cell-task.ensures (room c.args.k c.args.m c.args.at _ c.requires)))
 
 pub returns : goal.returns
 unfolding margin_row

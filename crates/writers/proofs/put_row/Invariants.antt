@@ -8,7 +8,8 @@ use Rattle.writers.proofs.put_row.Given as goal
 
 abbrev pub invariant-loop-j : goal.invariant-loop-j
 invariant-loop-j l =
-    (l.j ≤ length l.numbers) × (length l.buf ≡ length l.initial.buf) × Putting l.initial.buf l.at (line l.numbers) l.buf l.next (line (drop l.j l.numbers))
+    (l.j ≤ length l.numbers) × (length l.buf ≡ length l.initial.buf)
+    × Putting l.initial.buf l.at (line l.numbers) l.buf l.next (line (drop l.j l.numbers))
 
 abbrev pub decreases-loop-j : goal.decreases-loop-j
 decreases-loop-j l = length l.numbers - l.j

@@ -8,7 +8,8 @@ use Rattle.writers.proofs.put_ticks.Given as goal
 
 abbrev pub invariant-loop-i : goal.invariant-loop-i
 invariant-loop-i l = (l.i ≤ l.n) × (length l.buf ≡ length l.initial.buf)
-    × Putting l.initial.buf l.initial.next (ticks_from l.released l.finished 0) l.buf l.next (ticks_from l.released l.finished l.i)
+    × Putting l.initial.buf l.initial.next (ticks_from l.released l.finished 0) l.buf l.next
+    (ticks_from l.released l.finished l.i)
 
 abbrev pub decreases-loop-i : goal.decreases-loop-i
 decreases-loop-i l = l.n - l.i

@@ -23,12 +23,8 @@ abbrev pub platform_form : Form
 platform_form = record { header = bytes "cores,partitions"; first = largest; others = largest ∷ []; one = true }
 
 abbrev pub tasks_form : Form
-tasks_form = record {
-  header = bytes "D,T,C,A";
-  first = largest;
-  others = largest ∷ largest ∷ largest ∷ [];
-  one = false;
-}
+tasks_form =
+    record { header = bytes "D,T,C,A"; first = largest; others = largest ∷ largest ∷ largest ∷ []; one = false }
 
 abbrev pub ticks_form : Form
 ticks_form = record { header = bytes "released,finished"; first = largest; others = largest ∷ []; one = false }

@@ -2,3 +2,4 @@ pub mod Limits
 pub mod Tasks
 pub mod Refused
 pub mod Good
+pub mod Reasons

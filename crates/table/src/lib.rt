@@ -4,7 +4,30 @@
 ghost use Rattle.std.specs.Prelude.{min, ◌≤◌, ◌≡◌};
 ghost use Rattle.table.specs.Limits.{most_tasks, most_cores, most_partitions, longest_period};
 ghost use Rattle.table.specs.Refused.{sizes_refusal, row_refusal, rows_refusal, refusal};
+ghost use Rattle.table.specs.Reasons.{number_of, outcome, refusal_for};
 ghost use Rattle.table.specs.Tasks.{no_task, empty_table};
+
+// Why something is refused: document 01 numbers the reasons.
+#[derive(Clone, Copy, PartialEq, Eq)]
+pub enum Reason {
+    Count = 1,
+    Cores = 2,
+    Partitions = 3,
+    Period = 4,
+    NoRun = 5,
+    Run = 6,
+    Deadline = 7,
+    Need = 8,
+    Task = 9,
+    NotRunning = 10,
+    Overrun = 11,
+    Early = 12,
+    Unfinished = 13,
+    State = 14,
+    Text = 15,
+    Room = 16,
+    Multiple = 17,
+}
 
 #[repr(C)]
 #[derive(Clone, Copy)]
@@ -39,7 +62,7 @@ pub struct Table {
     pub rows: [Task; Table::MOST],
 }
 
-// Number 0 is no refusal.
+// A reason by its number, and the row or task concerned, as C gets it. Number 0 is no refusal: only C's records have it.
 #[repr(C)]
 #[derive(Clone, Copy)]
 pub struct Refusal {
@@ -69,29 +92,26 @@ impl Task {
         }
     }
 
-    // The first of refusals 4 to 8 that the row earns on a cache of p partitions, or 0.
-    pub fn refused(self, p: Partitions) -> u32
-        ensures { result ≡ row_refusal p.0 self }
+    // The first of refusals 4 to 8 that the row earns on a cache of p partitions.
+    pub fn check(self, p: Partitions) -> Result<(), Reason>
+        ensures { number_of result ≡ row_refusal p.0 self }
     {
-        if self.t < 1 {
-            return 4;
-        }
-        if Task::LONGEST < self.t {
-            return 4;
+        if self.t < 1 || Task::LONGEST < self.t {
+            return Err(Reason::Period);
         }
         if self.c == 0 {
-            return 5;
+            return Err(Reason::NoRun);
         }
         if self.d < self.c {
-            return 6;
+            return Err(Reason::Run);
         }
         if self.t < self.d {
-            return 7;
+            return Err(Reason::Deadline);
         }
         if p.0 < self.a.0 {
-            return 8;
+            return Err(Reason::Need);
         }
-        0
+        Ok(())
     }
 }
 
@@ -103,7 +123,7 @@ impl Table {
         ensures { result ≡ empty_table platform }
     {
         Table {
-            platform: platform,
+            platform,
             n: 0,
             rows: [Task::none(); Table::MOST],
         }
@@ -113,68 +133,66 @@ impl Table {
     pub fn entries(n: usize) -> usize
         ensures { result ≡ min n most_tasks }
     {
-        if n < Table::MOST { n } else { Table::MOST }
+        n.min(Table::MOST)
     }
 
-    // The first of refusals 1 to 3, or 0.
-    pub fn sizes_refused(self) -> u32
-        ensures { result ≡ sizes_refusal self }
+    // The first of refusals 1 to 3.
+    pub fn check_sizes(&self) -> Result<(), Reason>
+        ensures { number_of result ≡ sizes_refusal self.now }
     {
         let m = self.platform.cores.0;
         let p = self.platform.partitions.0;
-        if self.n < 1 {
-            return 1;
+        if self.n < 1 || Table::MOST < self.n {
+            return Err(Reason::Count);
         }
-        if Table::MOST < self.n {
-            return 1;
+        if m < 1 || Cores::MOST < m {
+            return Err(Reason::Cores);
         }
-        if m < 1 {
-            return 2;
+        if p < 1 || Partitions::MOST < p {
+            return Err(Reason::Partitions);
         }
-        if Cores::MOST < m {
-            return 2;
-        }
-        if p < 1 {
-            return 3;
-        }
-        if Partitions::MOST < p {
-            return 3;
-        }
-        0
-    }
-
-    // The first of refusals 1 to 8.
-    pub fn refused(self) -> Refusal
-        ensures { result ≡ refusal self }
-    {
-        let number = self.sizes_refused();
-        if number != 0 {
-            return Refusal {
-                number: number,
-                row: 0,
-            };
-        }
-        self.rows_refused()
+        Ok(())
     }
 
     // The first of refusals 4 to 8, row by row.
-    fn rows_refused(self) -> Refusal
-        requires { self.n ≤ most_tasks }
-        ensures { result ≡ rows_refusal self }
+    fn check_rows(&self) -> Result<(), Refusal>
+        requires { self.now.n ≤ most_tasks }
+        ensures { result ≡ outcome (rows_refusal self.now) }
     {
-        let n = self.n;
         let p = self.platform.partitions;
-        let mut i: usize = 0;
-        while i < n {
-            let number = self.rows[i].refused(p);
-            if number != 0 {
-                return Refusal {
-                    number: number,
-                    row: i + 1,
-                };
+        for i in 0..self.n {
+            if let Err(reason) = self.rows[i].check(p) {
+                return Err(Refusal::new(reason, i + 1));
             }
-            i += 1;
         }
-        Refusal { number: 0, row: 0 }
+        Ok(())
+    }
+
+    // The first of refusals 1 to 8.
+    pub fn check(&self) -> Result<(), Refusal>
+        ensures { result ≡ outcome (refusal self.now) }
+    {
+        self.check_sizes()?;
+        self.check_rows()
+    }
+}
+
+// A reason that concerns no one row.
+impl From<Reason> for Refusal {
+    ghost from_gives = { λ reason r. r ≡ refusal_for reason 0 };
+
+    fn from(reason: Reason) -> Refusal {
+        Refusal::new(reason, 0)
+    }
+}
+
+impl Refusal {
+    pub fn new(reason: Reason, row: usize) -> Refusal
+        ensures { result ≡ refusal_for reason row }
+    {
+        Refusal {
+            number: reason as u32,
+            row,
+        }
     }
 }

@@ -1,14 +1,15 @@
 use Rattle.maths.proofs.Tests.{tests}
 use Rattle.table.specs.Refused.{row_rules}
-use Rattle.table.proofs.Task.refused.Goals as goal
+use Rattle.table.proofs.Task.check.Goals.{then-self-lt1-via-then-self-lt1, then-self-lt1-via-else-self-lt1+then-self-gt-LONGEST}
+use Rattle.table.proofs.Task.check.Goals as goal
 
 pub returns-then-self-lt1 : goal.returns-then-self-lt1
 unfolding row_rules
-returns-then-self-lt1 c = search tests
-
-pub returns-then-self-gt-LONGEST : goal.returns-then-self-gt-LONGEST
-unfolding row_rules
-returns-then-self-gt-LONGEST c = search tests
+returns-then-self-lt1 c =
+    elim c.then-self-lt1.branch [
+      | then-self-lt1-via-then-self-lt1 w ↦ search tests
+      | then-self-lt1-via-else-self-lt1+then-self-gt-LONGEST w ↦ search tests
+    ]
 
 pub returns-then-self-eq0 : goal.returns-then-self-eq0
 unfolding row_rules

@@ -1,18 +1,14 @@
 -- What the rows of a text say: a platform, a table, ticks. A text that is not of its form is refusal 15 with the
--- offset, and then everything else is 0. Of the tasks every row is counted and the first 32 are kept.
-use Rattle.std.specs.Prelude.{ℕ, List, [], ◌++◌, map, length, get_or}
+-- offset, and nothing else. Of the tasks every row is counted and the first 32 are kept.
+use Rattle.std.specs.Prelude.{ℕ, List, [], ◌++◌, map, length, get_or, Result, Ok, Err}
 use Rattle.table.specs.declared.Platform.{Platform}
 use Rattle.table.specs.declared.Task.{Task}
 use Rattle.table.specs.declared.Table.{Table}
 use Rattle.table.specs.declared.Refusal.{Refusal}
-use Rattle.table.specs.Refused.{no_refusal}
-use Rattle.table.specs.Tasks.{empty_table, table_of}
+use Rattle.table.specs.Tasks.{table_of}
 use Rattle.forms.specs.Forms.{ticks_form, crlf}
 use Rattle.forms.specs.Reads.{Answer, found, refused}
-use Rattle.readers.specs.declared.PlatformRead.{PlatformRead}
-use Rattle.readers.specs.declared.TableRead.{TableRead}
 use Rattle.readers.specs.declared.Tick.{Tick}
-use Rattle.readers.specs.declared.TicksRead.{TicksRead}
 use Rattle.readers.specs.declared.TickRead.{TickRead}
 use Rattle.readers.specs.Places.{row_at}
 
@@ -33,21 +29,21 @@ abbrev pub no_platform : Platform
 no_platform = platform_of []
 
 -- a platform text has one row
-abbrev pub platform_read : Answer (List (List ℕ)) → PlatformRead
-platform_read (found rows) = record { refused = no_refusal; platform = platform_of (get_or rows 0 []) }
-platform_read (refused offset) = record { refused = bad_text offset; platform = no_platform }
+abbrev pub platform_read : Answer (List (List ℕ)) → Result Platform Refusal
+platform_read (found rows) = Ok (platform_of (get_or rows 0 []))
+platform_read (refused offset) = Err (bad_text offset)
 
-abbrev pub table_read : Platform → Answer (List (List ℕ)) → TableRead
-table_read platform (found rows) = record { refused = no_refusal; table = table_of platform (map task_of rows) }
-table_read platform (refused offset) = record { refused = bad_text offset; table = empty_table no_platform }
+abbrev pub table_read : Platform → Answer (List (List ℕ)) → Result Table Refusal
+table_read platform (found rows) = Ok (table_of platform (map task_of rows))
+table_read platform (refused offset) = Err (bad_text offset)
 
 abbrev pub tick_of : List ℕ → Tick
 tick_of row = record { released = get_or row 0 0; finished = get_or row 1 0 }
 
 -- the ticks are read one by one from the place behind the header
-abbrev pub ticks_read : Answer (List (List ℕ)) → TicksRead
-ticks_read (found rows) = record { refused = no_refusal; count = length rows }
-ticks_read (refused offset) = record { refused = bad_text offset; count = 0 }
+abbrev pub ticks_read : Answer (List (List ℕ)) → Result ℕ Refusal
+ticks_read (found rows) = Ok (length rows)
+ticks_read (refused offset) = Err (bad_text offset)
 
 abbrev pub first_tick : ℕ
 first_tick = length (ticks_form.header ++ crlf)

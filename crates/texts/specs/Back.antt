@@ -1,12 +1,11 @@
 -- What the writers write is read back (document 01: "Writers produce the one good text of their input").
-use Rattle.std.specs.Prelude.{ℕ, ◌<◌, ◌≤◌, ◌≡◌, List, map, length, take, get_or}
+use Rattle.std.specs.Prelude.{ℕ, ◌<◌, ◌≤◌, ◌≡◌, List, map, length, take, get_or, Ok}
 use Rattle.forms.specs.Forms.{columns, Within, EachRow, GoodText, platform_form, tasks_form, ticks_form}
 use Rattle.forms.specs.Reads.{found}
 use Rattle.forms.specs.Reader.{read}
 use Rattle.table.specs.declared.Platform.{Platform}
 use Rattle.table.specs.declared.Table.{Table}
 use Rattle.table.specs.Limits.{most_tasks}
-use Rattle.table.specs.Refused.{no_refusal}
 use Rattle.table.specs.Tasks.{no_task, table_of}
 use Rattle.readers.specs.Inputs.{platform_read, table_read}
 use Rattle.writers.specs.Outputs.{platform_row, task_row, tick_rows, platform_text, tasks_text, reports_text}
@@ -37,10 +36,9 @@ pub record WritesBack : Type 0 where
       → GoodText ticks_form (reports_text released finished)
   -- the readers give back what was written
   pub platform_back : (p : Platform) → NarrowPlatform p
-      → platform_read (read platform_form (platform_text p)) ≡ record { refused = no_refusal; platform = p }
+      → platform_read (read platform_form (platform_text p)) ≡ Ok p
   pub tasks_back : (t : Table) → NarrowRows t
-      → table_read t.platform (read tasks_form (tasks_text t))
-      ≡ record { refused = no_refusal; table = table_written t }
+      → table_read t.platform (read tasks_form (tasks_text t)) ≡ Ok (table_written t)
   pub ticks_back : (released finished : List ℕ) → NarrowTicks released finished
       → read ticks_form (reports_text released finished) ≡ found (tick_rows released finished)
   -- of at most 32 tasks that is the table's n and first n rows, and the table itself where entries past n are zero

@@ -7,7 +7,7 @@ use Rattle.table.specs.declared.Refusal.{Refusal}
 use Rattle.table.specs.declared.Table.{Table}
 use Rattle.admission.specs.declared.QuickAnswer.{QuickAnswer}
 use Rattle.admission.specs.Answers.{quick_answer}
-use Rattle.texts.specs.Given.{given}
+use Rattle.texts.specs.Given.{given, told}
 
 abbrev pub numbered : QuickAnswer → ℕ
 numbered a = cond (eqb a.refused.number 0) (cond (eqb a.first 0) 0 (100 + a.first)) a.refused.number
@@ -19,4 +19,4 @@ abbrev pub quick_number : Table → ℕ
 quick_number t = numbered (quick_answer t)
 
 unfoldable pub verdict : List ℕ → List ℕ → ℕ
-verdict platform tasks = given number_of quick_number (read platform_form platform) (read tasks_form tasks)
+verdict platform tasks = told number_of quick_number (given (read platform_form platform) (read tasks_form tasks))

@@ -17,7 +17,7 @@ use Rattle.admission.specs.Test.{B, load_of}
 use Rattle.admission.specs.declared.FullAnswer.{FullAnswer}
 use Rattle.admission.specs.Answers.{full_answer, quick_answer}
 use Rattle.machine.specs.declared.Machine.{Machine}
-use Rattle.machine.specs.declared.Ticked.{Ticked}
+use Rattle.machine.specs.Tick.{Ticked}
 use Rattle.machine.specs.Jobs.{held}
 use Rattle.machine.specs.Fresh.{fresh}
 use Rattle.rehearsal.specs.declared.Rehearsal.{Rehearsal}

@@ -14,8 +14,7 @@ use denote.Ref.{Bor}
 use denote.MutBor.{MutBor}
 use Rattle.machine.specs.declared.Answer.{Answer}
 use Rattle.machine.specs.declared.Machine.{Machine}
-use Rattle.machine.specs.declared.Ticked.{Ticked}
-use Rattle.machine.specs.Tick.{tick}
+use Rattle.machine.specs.Tick.{Ticked, tick}
 use Rattle.texts.specs.Verdict.{verdict}
 use Rattle.gorsetumble.specs.declared.texting.TextRefusal.{TextRefusal}
 use Rattle.gorsetumble.specs.declared.texting.TextsSetUp.{TextsSetUp}

@@ -8,10 +8,8 @@ use Rattle.admission.specs.declared.QuickAnswer.{QuickAnswer}
 use Rattle.admission.specs.Answers.{quick_answer}
 use Rattle.admission.proofs.quick_answer.Reads as quick
 use Rattle.machine.specs.declared.Machine.{Machine}
-use Rattle.machine.specs.declared.SetUp.{SetUp}
-use Rattle.machine.specs.declared.Ticked.{Ticked}
-use Rattle.machine.specs.Fresh.{set_up}
-use Rattle.machine.specs.Tick.{tick}
+use Rattle.machine.specs.Fresh.{SetUp, set_up}
+use Rattle.machine.specs.Tick.{Ticked, tick}
 use Rattle.machine.proofs.Machine.set_up.Reads as set-up
 use Rattle.lent.proofs.ticked.Reads as tick-fn
 

@@ -20,13 +20,11 @@ use Rattle.table.specs.Tasks.{no_task, table_of}
 use Rattle.admission.proofs.Answers.{answers_agree}
 use Rattle.machine.specs.declared.Job.{Job}
 use Rattle.machine.specs.declared.Machine.{Machine}
-use Rattle.machine.specs.declared.SetUp.{SetUp}
 use Rattle.machine.specs.declared.Stage.{Stage}
-use Rattle.machine.specs.declared.Ticked.{Ticked}
 use Rattle.machine.specs.Jobs.{job}
 use Rattle.machine.specs.Conditions.{good_state}
-use Rattle.machine.specs.Fresh.{set_up}
-use Rattle.machine.specs.Tick.{tick_refusal, accepted, refused_answer, tick}
+use Rattle.machine.specs.Fresh.{SetUp, set_up}
+use Rattle.machine.specs.Tick.{Ticked, tick_refusal, accepted, refused_answer, tick}
 use Rattle.machine.proofs.StateParts.{Staged, when_good}
 use Rattle.machine.proofs.StateTest.{state-good}
 use Rattle.machine.proofs.StateFresh.{set-up-fresh, set_up_forgets_lem, set-up-refused}

@@ -13,8 +13,7 @@ use Rattle.admission.specs.declared.FullAnswer.{FullAnswer}
 use Rattle.admission.specs.declared.QuickAnswer.{QuickAnswer}
 use Rattle.admission.specs.Answers.{full_answer, quick_answer}
 use Rattle.machine.specs.declared.Machine.{Machine}
-use Rattle.machine.specs.declared.SetUp.{SetUp}
-use Rattle.machine.specs.Fresh.{set_up}
+use Rattle.machine.specs.Fresh.{SetUp, set_up}
 use Rattle.rehearsal.specs.declared.Rehearsal.{Rehearsal}
 use Rattle.rehearsal.specs.Rehearsal.{rehearsed}
 use Rattle.gorsetumble.specs.declared.texting.TextRefusal.{TextRefusal}

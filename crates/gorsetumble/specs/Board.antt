@@ -10,7 +10,7 @@ use Rattle.table.specs.Refused.{refusal}
 use Rattle.readers.specs.Inputs.{table_from}
 use Rattle.admission.specs.Test as test
 use Rattle.machine.specs.declared.Machine.{Machine}
-use Rattle.machine.specs.declared.Ticked.{Ticked}
+use Rattle.machine.specs.Tick.{Ticked}
 use Rattle.machine.specs.Fresh.{set_up}
 use Rattle.texts.specs.Verdict.{verdict}
 use Rattle.promise.specs.Sequences.{Report}

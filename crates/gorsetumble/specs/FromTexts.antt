@@ -6,8 +6,7 @@ use Rattle.forms.specs.Reads.{Answer, found, refused}
 use Rattle.forms.specs.Reader.{read}
 use Rattle.readers.specs.Inputs.{bad_text, table_from}
 use Rattle.machine.specs.declared.Machine.{Machine}
-use Rattle.machine.specs.declared.SetUp.{SetUp}
-use Rattle.machine.specs.Fresh.{set_up}
+use Rattle.machine.specs.Fresh.{SetUp, set_up}
 use Rattle.gorsetumble.specs.declared.texting.TextRefusal.{TextRefusal}
 use Rattle.gorsetumble.specs.declared.texting.TextsSetUp.{TextsSetUp}
 

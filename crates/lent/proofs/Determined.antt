@@ -5,8 +5,7 @@ use mathlib.Core.Path.{◌≡◌}
 use Rattle.maths.proofs.Determined.{determined, determined-both}
 use Rattle.machine.specs.declared.Answer.{Answer}
 use Rattle.machine.specs.declared.Machine.{Machine}
-use Rattle.machine.specs.declared.Ticked.{Ticked}
-use Rattle.machine.specs.Tick.{tick}
+use Rattle.machine.specs.Tick.{Ticked, tick}
 
 module _ (x y : ℕ) where
   pub tick-determined : (m : Machine) (r s : Answer) (a b : Machine)

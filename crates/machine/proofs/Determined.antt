@@ -1,7 +1,11 @@
 -- Two results that a public function's statement allows are equal.
 use mathlib.Core.Path.{◌≡◌}
 use mathlib.Core.Bool.{Bool}
-use Rattle.maths.proofs.Determined.{determined}
+use Rattle.maths.proofs.Determined.{determined, determined-both}
+use Rattle.std.specs.Prelude.{Result}
+use Rattle.table.specs.declared.Refusal.{Refusal}
+use Rattle.table.specs.Refused.{refusal}
+use Rattle.table.specs.Reasons.{outcome}
 use Rattle.table.specs.declared.Cores.{Cores}
 use Rattle.table.specs.declared.Partitions.{Partitions}
 use Rattle.table.specs.declared.Task.{Task}
@@ -9,7 +13,6 @@ use Rattle.table.specs.declared.Table.{Table}
 use Rattle.machine.specs.declared.Stage.{Stage}
 use Rattle.machine.specs.declared.Job.{Job}
 use Rattle.machine.specs.declared.Machine.{Machine}
-use Rattle.machine.specs.declared.SetUp.{SetUp}
 use Rattle.machine.specs.Jobs.{is_idle, is_waiting, is_running, no_job}
 use Rattle.machine.specs.Fresh.{fresh, set_up}
 use Rattle.machine.specs.Steps.{fits_in}
@@ -33,5 +36,7 @@ fits_in_determined cores partitions τ = determined (fits_in cores partitions τ
 pub fresh-determined : (t : Table) (r s : Machine) → r ≡ fresh t → s ≡ fresh t → r ≡ s
 fresh-determined t = determined (fresh t)
 
-pub set-up-determined : (old : Machine) (t : Table) (r s : SetUp) → r ≡ set_up old t → s ≡ set_up old t → r ≡ s
-set-up-determined old t = determined (set_up old t)
+pub set-up-determined : (old : Machine) (t : Table) (r s : Result Unit Refusal) (a b : Machine)
+    → (r ≡ outcome (refusal t)) × (a ≡ (set_up old t).machine)
+    → (s ≡ outcome (refusal t)) × (b ≡ (set_up old t).machine) → (r ≡ s) × (a ≡ b)
+set-up-determined old t = determined-both (outcome (refusal t)) (set_up old t).machine

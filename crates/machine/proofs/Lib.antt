@@ -5,4 +5,5 @@ pub mod StateTest
 pub mod StateFresh
 pub mod Accepted
 pub mod Taken
+pub mod Outcomes
 pub mod Determined

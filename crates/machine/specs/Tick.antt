@@ -9,10 +9,14 @@ use Rattle.table.specs.Tasks.{τ, T, C}
 use Rattle.sets.specs.TaskSets.{has_task, tasks_where}
 use Rattle.machine.specs.declared.Answer.{Answer}
 use Rattle.machine.specs.declared.Machine.{Machine}
-use Rattle.machine.specs.declared.Ticked.{Ticked}
 use Rattle.machine.specs.Jobs.{job, idles, waits, runs}
 use Rattle.machine.specs.Conditions.{good_state}
 use Rattle.machine.specs.Steps.{passed, finish, late_set, release, start_all}
+
+-- what a tick comes to
+pub record Ticked : Type 0 where
+  pub machine : Machine
+  pub answer : Answer
 
 -- refusals 9 to 13, of task k
 unfoldable pub tick_rules : Machine → ℕ → ℕ → List (Rule ℕ)

@@ -9,6 +9,7 @@ mod state;
 use table::{Cores, Partitions, Refusal, Table, Task};
 
 // 0 idle, 1 waiting, 2 running; no good state has another.
+// A number and no enum: a state comes through the C interface, and one with a stage above 2 is refused under 14.
 #[repr(C)]
 #[derive(Clone, Copy)]
 pub struct Stage(pub u32);
@@ -30,12 +31,6 @@ pub struct Machine {
     pub jobs: [Job; Table::MOST],
 }
 
-#[derive(Clone, Copy)]
-pub struct SetUp {
-    pub refused: Refusal,
-    pub machine: Machine,
-}
-
 // What a tick answers: three sets of tasks, or the refusal.
 #[repr(C)]
 #[derive(Clone, Copy)]
@@ -44,12 +39,6 @@ pub struct Answer {
     pub finished: u32,
     pub late: u32,
     pub started: u32,
-}
-
-#[derive(Clone, Copy)]
-pub struct Ticked {
-    pub machine: Machine,
-    pub answer: Answer,
 }
 
 // At least one core and A partitions are idle.

@@ -1,10 +1,12 @@
 // Jobs, a fresh machine and set-up.
 ghost use Rattle.std.specs.Prelude.{◌≡◌};
+ghost use Rattle.table.specs.Refused.{refusal};
+ghost use Rattle.table.specs.Reasons.{outcome};
 ghost use Rattle.machine.specs.Jobs.{is_idle, is_waiting, is_running, no_job};
 ghost use Rattle.machine.specs.Fresh.{trimmed, fresh, set_up};
 
-use crate::{Job, Machine, SetUp, Stage};
-use table::{Table, Task};
+use crate::{Job, Machine, Stage};
+use table::{Refusal, Table, Task};
 
 impl Stage {
     pub const IDLE: Stage = Stage(0);
@@ -46,70 +48,52 @@ impl Job {
 }
 
 // The rows of tasks 1 to n, and zero past n.
-fn trimmed_rows(t: Table) -> [Task; Table::MOST]
-    ensures { result ≡ (trimmed t).rows }
+fn trimmed_rows(t: &Table) -> [Task; Table::MOST]
+    ensures { result ≡ (trimmed t.now).rows }
 {
-    let n = Table::entries(t.n);
     let mut rows = [Task::none(); Table::MOST];
-    let mut i: usize = 0;
-    while i < n {
+    for i in 0..Table::entries(t.n) {
         rows[i] = t.rows[i];
-        i += 1;
     }
     rows
 }
 
 // Tasks 1 to n idle with age T, and zero past n.
-fn fresh_jobs(t: Table) -> [Job; Table::MOST]
-    ensures { result ≡ (fresh t).jobs }
+fn fresh_jobs(t: &Table) -> [Job; Table::MOST]
+    ensures { result ≡ (fresh t.now).jobs }
 {
-    let n = Table::entries(t.n);
-    let mut jobs = [Job::none(); Table::MOST];
-    let mut i: usize = 0;
-    while i < n {
-        let row = t.rows[i];
+    let none = Job::none();
+    let mut jobs = [none; Table::MOST];
+    for i in 0..Table::entries(t.n) {
         jobs[i] = Job {
-            stage: Stage::IDLE,
-            age: row.t,
-            ran: 0,
-            held: 0,
+            age: t.rows[i].t,
+            ..none
         };
-        i += 1;
     }
     jobs
 }
 
 impl Machine {
-    pub fn fresh(t: Table) -> Machine
-        ensures { result ≡ fresh t }
+    pub fn fresh(t: &Table) -> Machine
+        ensures { result ≡ fresh t.now }
     {
-        let platform = t.platform;
-        let rows = trimmed_rows(t);
-        let jobs = fresh_jobs(t);
         Machine {
             table: Table {
-                platform: platform,
+                platform: t.platform,
                 n: t.n,
-                rows: rows,
+                rows: trimmed_rows(t),
             },
-            jobs: jobs,
+            jobs: fresh_jobs(t),
         }
     }
 
-    // A fresh machine, or the old one where the table is refused.
-    pub fn set_up(old: Machine, t: Table) -> SetUp
-        ensures { result ≡ set_up old t }
+    // A fresh machine of the table in the place of the old one, which stays where the table is refused.
+    pub fn set_up(&mut self, t: &Table) -> Result<(), Refusal>
+        ensures answer { result ≡ outcome (refusal t.now) }
+        ensures machine { self.new ≡ (set_up self.old t.now).machine }
     {
-        let refused = t.refused();
-        if refused.number == 0 {
-            return SetUp {
-                refused: refused,
-                machine: Machine::fresh(t),
-            };
-        }
-        SetUp {
-            refused: refused,
-            machine: old,
-        }
+        t.check()?;
+        *self = Machine::fresh(t);
+        Ok(())
     }
 }

@@ -3,9 +3,8 @@ use mathlib.Core.Path.{◌≡◌, refl, sym, ◌∙◌, ap}
 use mathlib.Core.List.{List}
 use Rattle.admission.specs.declared.QuickAnswer.{QuickAnswer}
 use Rattle.machine.specs.declared.Machine.{Machine}
-use Rattle.machine.specs.declared.SetUp.{SetUp}
-use Rattle.machine.specs.declared.Ticked.{Ticked}
-use Rattle.machine.specs.Fresh.{fresh}
+use Rattle.machine.specs.Tick.{Ticked}
+use Rattle.machine.specs.Fresh.{SetUp, fresh}
 use Rattle.machine.proofs.StateFresh.{set-up-fresh}
 use Rattle.promise.specs.Sequences.{Report, steps}
 use Rattle.promise.specs.Promise.{Admitted}

@@ -8,10 +8,8 @@ use Rattle.table.specs.Limits.{most_tasks}
 use Rattle.admission.specs.declared.QuickAnswer.{QuickAnswer}
 use Rattle.admission.specs.Answers.{quick_answer}
 use Rattle.machine.specs.declared.Machine.{Machine}
-use Rattle.machine.specs.declared.SetUp.{SetUp}
-use Rattle.machine.specs.declared.Ticked.{Ticked}
-use Rattle.machine.specs.Fresh.{set_up}
-use Rattle.machine.specs.Tick.{tick}
+use Rattle.machine.specs.Fresh.{SetUp, set_up}
+use Rattle.machine.specs.Tick.{Ticked, tick}
 use Rattle.promise.specs.Sequences.{Report, accepts, Step, step, counted}
 use Rattle.promise.specs.Promise.{Kept}
 

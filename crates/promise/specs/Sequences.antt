@@ -6,9 +6,8 @@ use Rattle.table.specs.declared.Table.{Table}
 use Rattle.sets.specs.TaskSets.{has_task}
 use Rattle.machine.specs.declared.Answer.{Answer}
 use Rattle.machine.specs.declared.Machine.{Machine}
-use Rattle.machine.specs.declared.Ticked.{Ticked}
 use Rattle.machine.specs.Fresh.{fresh}
-use Rattle.machine.specs.Tick.{refused_answer, tick}
+use Rattle.machine.specs.Tick.{Ticked, refused_answer, tick}
 
 -- the two sets that a tick brings
 pub record Report : Type 0 where

@@ -13,10 +13,9 @@ use Rattle.table.specs.Tasks.{τ, T}
 use Rattle.admission.specs.Test.{row}
 use Rattle.sets.proofs.Wheres.{where_empty}
 use Rattle.machine.specs.declared.Machine.{Machine}
-use Rattle.machine.specs.declared.Ticked.{Ticked}
 use Rattle.machine.specs.Jobs.{job}
 use Rattle.machine.specs.Steps.{for_tasks, older, passed}
-use Rattle.machine.specs.Tick.{accepted, tick}
+use Rattle.machine.specs.Tick.{Ticked, accepted, tick}
 use Rattle.machine.proofs.Accepted.{accepted-is}
 use Rattle.machine.proofs.Jobs.{for_length, passed-job}
 use Rattle.machine.proofs.StateParts.{GoodState}

@@ -9,7 +9,7 @@ use Rattle.table.specs.Tasks.{τ, T}
 use Rattle.table.specs.Refused.{refusal}
 use Rattle.sets.specs.TaskSets.{has_task}
 use Rattle.machine.specs.declared.Machine.{Machine}
-use Rattle.machine.specs.declared.Ticked.{Ticked}
+use Rattle.machine.specs.Tick.{Ticked}
 use Rattle.machine.specs.Jobs.{idles}
 use Rattle.machine.specs.Fresh.{fresh}
 use Rattle.promise.specs.Promise.{Admitted}

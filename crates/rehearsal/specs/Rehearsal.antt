@@ -10,11 +10,10 @@ use Rattle.table.specs.Tasks.{τ, T, C}
 use Rattle.table.specs.Refused.{no_refusal, refusal, unrefused}
 use Rattle.sets.specs.TaskSets.{has_task, tasks_where}
 use Rattle.machine.specs.declared.Machine.{Machine}
-use Rattle.machine.specs.declared.Ticked.{Ticked}
 use Rattle.machine.specs.Jobs.{job, runs}
 use Rattle.machine.specs.Fresh.{fresh}
 use Rattle.machine.specs.Steps.{passed, finish, late_set}
-use Rattle.machine.specs.Tick.{tick}
+use Rattle.machine.specs.Tick.{Ticked, tick}
 use Rattle.rehearsal.specs.declared.Rehearsal.{Rehearsal}
 use Rattle.rehearsal.specs.Multiple.{multiple, most_multiple}
 

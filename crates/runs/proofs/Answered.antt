@@ -19,9 +19,8 @@ use Rattle.table.proofs.Good.{good-sizes}
 use Rattle.sets.specs.Sets.{set_where}
 use Rattle.sets.proofs.Wheres.{where_lt}
 use Rattle.machine.specs.declared.Machine.{Machine}
-use Rattle.machine.specs.declared.Ticked.{Ticked}
 use Rattle.machine.specs.Conditions.{good_state}
-use Rattle.machine.specs.Tick.{tick_rules, first_given, tick_refusal, readied}
+use Rattle.machine.specs.Tick.{Ticked, tick_rules, first_given, tick_refusal, readied}
 use Rattle.machine.specs.Tick.{accepted, accepted_tick, refused_tick, tick}
 use Rattle.machine.proofs.Jobs.{finished-table, readied-table}
 use Rattle.machine.proofs.Queue.{step-table}

@@ -8,9 +8,8 @@ use Rattle.table.specs.declared.Refusal.{Refusal}
 use Rattle.table.specs.declared.Table.{Table}
 use Rattle.table.specs.Refused.{refusal, unrefused}
 use Rattle.machine.specs.declared.Machine.{Machine}
-use Rattle.machine.specs.declared.Ticked.{Ticked}
 use Rattle.machine.specs.Fresh.{fresh}
-use Rattle.machine.specs.Tick.{tick}
+use Rattle.machine.specs.Tick.{Ticked, tick}
 use Rattle.readers.specs.declared.Tick.{Tick}
 use Rattle.readers.specs.Inputs.{bad_text, tick_of, first_tick}
 use Rattle.writers.specs.Outputs.{listing, refused_text}

@@ -11,7 +11,7 @@ use Rattle.table.specs.Limits.{most_tasks}
 use Rattle.machine.specs.declared.Job.{Job}
 use Rattle.ticking.specs.declared.Look.{Look}
 use Rattle.machine.specs.declared.Machine.{Machine}
-use Rattle.machine.specs.declared.Ticked.{Ticked}
+use Rattle.machine.specs.Tick.{Ticked}
 use Rattle.ticking.specs.declared.Walk.{Walk}
 use Rattle.machine.specs.Jobs.{no_job, job}
 use Rattle.machine.specs.Conditions.{good_state}

@@ -3,4 +3,4 @@ use Rattle.machine.proofs.Machine.fresh.Goals as goal
 
 pub returns : goal.returns
 unfolding fresh
-returns c = rw (c.trimmed_rows-rows.ensures, c.fresh_jobs-jobs.ensures)
+returns c = rw (c.trimmed_rows.ensures, c.fresh_jobs.ensures)

@@ -1,22 +1,14 @@
-use mathlib.Core.Path.{◌≡◌, sym, ◌∙◌, ap}
-use borrow.Author.Tests.{eq-eqb, ne_eqb}
-use Rattle.table.specs.declared.Refusal.{Refusal}
+use mathlib.Core.Path.{refl}
 use Rattle.table.specs.Refused.{refusal}
 use Rattle.machine.specs.Fresh.{set_up}
+use Rattle.machine.proofs.Outcomes.{no-refusal, some-refusal}
 use Rattle.machine.proofs.Machine.set_up.Goals as goal
 
-pub returns-then-refused-eq0 : goal.returns-then-refused-eq0
+pub returns-in_err-check-clause-machine : goal.returns-in_err-check-clause-machine
 unfolding set_up
-returns-then-refused-eq0 c =
-    let t = c.args.t in
-    let e : (refusal t).number ≡ 0 =
-    ap (λ (x : Refusal). x.number) (sym c.refused-refused.ensures) ∙ c.if-refused-eq0.true in
-    rw (c.refused-refused.ensures, c.fresh.ensures) (simp (eq-eqb (refusal t).number 0 e))
+returns-in_err-check-clause-machine c =
+    rw (some-refusal (refusal c.args.t.now) tt _ c.in_err-check.ensures) refl
 
-pub returns : goal.returns
+pub returns-clause-machine : goal.returns-clause-machine
 unfolding set_up
-returns c =
-    let t = c.args.t in
-    let ne : (refusal t).number ≡ 0 → ⊥ =
-    λ z. c.if-refused-eq0.false (ap (λ (x : Refusal). x.number) c.refused-refused.ensures ∙ z) in
-    rw c.refused-refused.ensures (simp (ne_eqb (refusal t).number 0 ne))
+returns-clause-machine c = rw (no-refusal (refusal c.args.t.now) tt _ c.in_ok-check.ensures) c.fresh.ensures

@@ -11,17 +11,15 @@ use Rattle.machine.proofs.state.fresh_jobs.Goals as goal
 
 pub loop-i-init : goal.loop-i-init
 unfolding tabulate
-loop-i-init c =
-    (search rules, rw c.none-jobs.ensures (up_none most_tasks (fresh_job c.args.t) (λ k. no_job)))
+loop-i-init c = rw c.none-none.ensures (up_none most_tasks (fresh_job c.args.t.now) (λ k. no_job))
 
 pub loop-i-preserved : goal.loop-i-preserved
 loop-i-preserved c =
-    let t = c.args.t in
-    (search rules, rw c.loop-i.invariant.1 (up_more most_tasks (fresh_job t) (λ k. no_job) c.loop-i.i (search rules)))
+    rw (c.none-none.ensures, c.loop-i.invariant) (up_more most_tasks (fresh_job c.args.t.now) (λ k. no_job) c.loop-i.i (search rules))
 
 pub returns : goal.returns
 unfolding fresh
 returns c =
-    let t = c.args.t in
+    let t = c.args.t.now in
     let at-end : c.loop-i.i ≡ min t.n most_tasks = omega arith in
-    c.loop-i.invariant.1 ∙ (rw at-end (up-most most_tasks (fresh_job t) (λ k. no_job) t.n))
+    c.loop-i.invariant ∙ (rw at-end (up-most most_tasks (fresh_job t) (λ k. no_job) t.n))

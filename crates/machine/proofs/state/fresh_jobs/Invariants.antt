@@ -1,4 +1,3 @@
-use Prim.Native.Nat.{◌≤◌, ◌-◌}
 use mathlib.Core.Path.{◌≡◌}
 use Rattle.maths.proofs.Arrays.{up_to}
 use Rattle.table.specs.Limits.{most_tasks}
@@ -7,7 +6,4 @@ use Rattle.machine.specs.Fresh.{fresh_job}
 use Rattle.machine.proofs.state.fresh_jobs.Given as goal
 
 abbrev pub invariant-loop-i : goal.invariant-loop-i
-invariant-loop-i l = (l.i ≤ l.n) × (l.jobs ≡ up_to most_tasks (fresh_job l.t) (λ k. no_job) l.i)
-
-abbrev pub decreases-loop-i : goal.decreases-loop-i
-decreases-loop-i l = l.n - l.i
+invariant-loop-i l = l.jobs ≡ up_to most_tasks (fresh_job l.t) (λ k. no_job) l.i

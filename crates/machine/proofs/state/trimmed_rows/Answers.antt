@@ -10,15 +10,14 @@ use Rattle.machine.proofs.state.trimmed_rows.Goals as goal
 
 pub loop-i-init : goal.loop-i-init
 unfolding tabulate
-loop-i-init c = (search rules, rw c.none-rows.ensures (up_none most_tasks (τ c.args.t) (λ k. no_task)))
+loop-i-init c = rw c.none-rows.ensures (up_none most_tasks (τ c.args.t.now) (λ k. no_task))
 
 pub loop-i-preserved : goal.loop-i-preserved
 loop-i-preserved c =
-    let t = c.args.t in
-    (search rules, rw c.loop-i.invariant.1 (up_more most_tasks (τ t) (λ k. no_task) c.loop-i.i (search rules)))
+    rw c.loop-i.invariant (up_more most_tasks (τ c.args.t.now) (λ k. no_task) c.loop-i.i (search rules))
 
 pub returns : goal.returns
 returns c =
-    let t = c.args.t in
+    let t = c.args.t.now in
     let at-end : c.loop-i.i ≡ min t.n most_tasks = omega arith in
-    c.loop-i.invariant.1 ∙ (rw at-end (up-most most_tasks (τ t) (λ k. no_task) t.n))
+    c.loop-i.invariant ∙ (rw at-end (up-most most_tasks (τ t) (λ k. no_task) t.n))

@@ -1,4 +1,3 @@
-use Prim.Native.Nat.{◌≤◌, ◌-◌}
 use mathlib.Core.Path.{◌≡◌}
 use Rattle.maths.proofs.Arrays.{up_to}
 use Rattle.table.specs.Limits.{most_tasks}
@@ -6,7 +5,4 @@ use Rattle.table.specs.Tasks.{τ, no_task}
 use Rattle.machine.proofs.state.trimmed_rows.Given as goal
 
 abbrev pub invariant-loop-i : goal.invariant-loop-i
-invariant-loop-i l = (l.i ≤ l.n) × (l.rows ≡ up_to most_tasks (τ l.t) (λ k. no_task) l.i)
-
-abbrev pub decreases-loop-i : goal.decreases-loop-i
-decreases-loop-i l = l.n - l.i
+invariant-loop-i l = l.rows ≡ up_to most_tasks (τ l.t) (λ k. no_task) l.i

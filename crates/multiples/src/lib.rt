@@ -1,7 +1,8 @@
 // The greatest common divisor and the least common multiple.
 #![tactic(auto)]
 
-ghost use Rattle.std.specs.Prelude.{◌≡◌, cond, leb};
+ghost use Rattle.std.specs.Bool.{then_some};
+ghost use Rattle.std.specs.Prelude.{◌≡◌, leb};
 ghost use Rattle.multiples.specs.Gcd.{gcd, lcm};
 
 // By Euclid: the second argument, a remainder, falls at each call.
@@ -14,18 +15,13 @@ pub fn gcd(a: u32, b: u32) -> u32
     gcd(b, a % b)
 }
 
-// The least common multiple, or 0 where it is above `most`.
-pub fn lcm_within(a: u32, b: u32, most: u32) -> u32
-    ensures { result ≡ cond (leb (lcm a b) most) (lcm a b) 0 }
+// The least common multiple, where it is at most `most`.
+pub fn lcm_within(a: u32, b: u32, most: u32) -> Option<u32>
+    ensures { result ≡ then_some (leb (lcm a b) most) (lcm a b) }
 {
     if a == 0 {
-        return 0;
+        return Some(0);
     }
-    let times = a / gcd(a, b);
-    let multiple = (times as u64) * (b as u64);
-    if multiple <= (most as u64) {
-        multiple as u32
-    } else {
-        0
-    }
+    let multiple = (a / gcd(a, b)).checked_mul(b)?;
+    (multiple <= most).then_some(multiple)
 }

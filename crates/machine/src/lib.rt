@@ -45,8 +45,5 @@ pub struct Answer {
 pub fn fits_in(cores: Cores, partitions: Partitions, task: Task) -> bool
     ensures { result ≡ fits_in cores partitions task }
 {
-    if cores.0 < 1 {
-        return false;
-    }
-    task.a.0 <= partitions.0
+    1 <= cores.0 && task.a.0 <= partitions.0
 }

@@ -1,7 +1,7 @@
 -- Taking the lowest members one by one: `x & (x - 1)` lacks the lowest member of x, and what the choice leaves of x is
 -- what a choice of one less leaves of that.
 use Prim.Native.Nat.{ℕ, zero, suc, ◌+◌, ◌-◌, ◌*◌, ◌/◌, ◌%◌, ◌^◌, ◌<◌, ◌≤◌}
-use mathlib.Core.Path.{◌≡◌, sym, ◌∙◌, ap, ap₂}
+use mathlib.Core.Path.{◌≡◌, refl, sym, ◌∙◌, ap, ap₂}
 use mathlib.Core.Logic.{◌⊎◌, inl, inr}
 use native.Mathlib.Nat.{lt_of_le_of_lt, le_trans, one-mul, sub-le, mod-eq_of_lt}
 use native.Mathlib.Omega.{arith}
@@ -12,7 +12,7 @@ use lib.Pow.{pow_pos, pow-lt, split, ones_lt}
 use Rattle.table.specs.Limits.{most_partitions}
 use Rattle.sets.specs.Sets.{bit, size, without, Within}
 use Rattle.sets.specs.Choice.{choice}
-use Rattle.sets.specs.Code.Less.{less}
+use Rattle.sets.specs.Code.Less.{less, leaves}
 use Rattle.sets.proofs.Bits.{bit-cases, bit_lt, bit-zero, bit-without, bit_pow_same, bit_pow_other, bit_mod}
 use Rattle.sets.proofs.Bits.{mod_more}
 use Rattle.sets.proofs.Same.{ext, and-within}
@@ -74,10 +74,6 @@ module _ (x p : ℕ) (low : Lowest x p) where
 
   low_empty : size p x ≡ 0
   low_empty = size_same p x 0 (λ q l. low-none q l ∙ sym (bit-zero q)) ∙ size-zero p
-
--- what the choice leaves
-abbrev pub leaves : ℕ → ℕ → ℕ
-leaves x a = without x (choice x a)
 
 module _ (x a q : ℕ) (h : q < most_partitions) where
   leaves_none : size q x < a → bit (leaves x a) q ≡ 0
@@ -164,5 +160,13 @@ leaves-zero x = rw (choice-none x, and_zero_r x) (omega arith)
 pub taken : (x a : ℕ) → x - leaves x a ≡ choice x a
 taken x a = sub-sub_self (and_le_l x (choice x a)) ∙ and-within (choice x a) x (choice-within x a)
 
-pub taken-all : (x a : ℕ) → leaves x a ≡ 0 → x ≡ choice x a
-taken-all x a e = omega (arith, taken x a)
+-- first a of them, and then b
+pub leaves-more : (x a b : ℕ) → x < 2 ^ most_partitions → leaves x (a + b) ≡ leaves (leaves x a) b
+leaves-more x zero b h =
+    let all : 0 + b ≡ b = omega arith in
+    rw (leaves-zero x, all) refl
+leaves-more x (suc a) b h =
+    let fewer : suc a + b - 1 ≡ a + b = omega arith in
+    let one : suc a - 1 ≡ a = omega arith in
+    rw (leaves-step x (suc a + b) h (omega arith), leaves-step x (suc a) h (omega arith), fewer, one)
+    (leaves-more (less x) a b (lt_of_le_of_lt (less-le x) h))

@@ -1,12 +1,12 @@
 // Sets of tasks and of partitions as numbers, and the choice of partitions for a starting job.
 #![tactic(auto)]
 
-ghost use Rattle.std.specs.Prelude.{◌≡◌, min};
+ghost use Rattle.std.specs.Prelude.{◌≡◌, min, ◌*◌};
 ghost use Rattle.table.specs.Limits.{most_partitions};
 ghost use Rattle.sets.specs.Sets.{partitions_in, below, without};
 ghost use Rattle.sets.specs.TaskSets.{has_task, task_bit};
 ghost use Rattle.sets.specs.Choice.{choice};
-ghost use Rattle.sets.specs.Code.Less.{less};
+ghost use Rattle.sets.specs.Code.Less.{less, leaves};
 
 use table::{Partitions, Table};
 
@@ -14,10 +14,7 @@ use table::{Partitions, Table};
 pub fn has_task(x: u32, k: usize) -> bool
     ensures { result ≡ has_task x k }
 {
-    if k < 1 {
-        return false;
-    }
-    if Table::MOST < k {
+    if k < 1 || Table::MOST < k {
         return false;
     }
     (x >> ((k - 1) as u32)) % 2 == 1
@@ -27,10 +24,7 @@ pub fn has_task(x: u32, k: usize) -> bool
 pub fn task_bit(k: usize) -> u32
     ensures { result ≡ task_bit k }
 {
-    if k < 1 {
-        return 0;
-    }
-    if Table::MOST < k {
+    if k < 1 || Table::MOST < k {
         return 0;
     }
     1u32 << ((k - 1) as u32)
@@ -40,18 +34,17 @@ pub fn task_bit(k: usize) -> u32
 pub fn size(x: u64) -> Partitions
     ensures { result ≡ partitions_in x }
 {
-    Partitions(u64::count_ones(x))
+    Partitions(x.count_ones())
 }
 
 // The set of the partitions below p.
 pub fn below(p: Partitions) -> u64
     ensures { result ≡ below (min p.0 most_partitions) }
 {
-    let count = p.0;
-    if count < Partitions::MOST {
-        return (1u64 << count) - 1;
+    if p.0 < Partitions::MOST {
+        return (1u64 << p.0) - 1;
     }
-    0xffff_ffff_ffff_ffff
+    u64::MAX
 }
 
 // The members of x that are not in y.
@@ -71,23 +64,35 @@ fn less(x: u64) -> u64
     x & (x - 1)
 }
 
-// The partitions that a starting job of A = a gets, out of the idle ones: four at a time, and then those that are left.
+// What is left of the set without its n lowest members.
+fn less_by(x: u64, n: u32) -> u64
+    ensures { result ≡ leaves x n }
+{
+    let mut rest = x;
+    for _ in 0..n {
+        rest = less(rest);
+    }
+    rest
+}
+
+// The same of four times as many, four at a time and until none is left: a turn for each was slower.
+fn less_by_fours(x: u64, fours: u32) -> u64
+    ensures { result ≡ leaves x (4 * fours) }
+{
+    let mut rest = x;
+    for _ in 0..fours {
+        if rest == 0 {
+            return 0;
+        }
+        rest = less(less(less(less(rest))));
+    }
+    rest
+}
+
+// The partitions that a starting job of A = a gets, out of the idle ones.
 pub fn choose(idle: u64, a: Partitions) -> u64
     ensures { result ≡ choice idle a.0 }
 {
-    let count = a.0;
-    let mut rest = idle;
-    let mut left = count;
-    while 4 <= left {
-        if rest == 0 {
-            return idle;
-        }
-        rest = less(less(less(less(rest))));
-        left -= 4;
-    }
-    while 0 < left {
-        rest = less(rest);
-        left -= 1;
-    }
-    idle - rest
+    let rest = less_by_fours(idle, a.0 / 4);
+    idle - less_by(rest, a.0 % 4)
 }

@@ -9,8 +9,8 @@ use Rattle.sets.proofs.below.Goals as goal
 pub overflow_sub-result : goal.overflow_sub-result
 overflow_sub-result c = rw (shifted 64 c.args.p.0 (search rules)) (pow_pos c.args.p.0)
 
-pub returns-then-count-lt-MOST : goal.returns-then-count-lt-MOST
-returns-then-count-lt-MOST c =
+pub returns-then-p-lt-MOST : goal.returns-then-p-lt-MOST
+returns-then-p-lt-MOST c =
     let p = c.args.p.0 in
     let m : min p 64 ≡ p = omega arith in
     rw (shifted 64 p (search rules), m)

@@ -12,15 +12,14 @@ use borrow.Author.Tests.{eqb-true, eqb-false}
 use lib.Dec.{eqb}
 use lib.ListN.{length, drop, get_or, drop_of_length-le}
 use lib.Seq.{drop-cons}
+use Rattle.std.specs.Prelude.{Option as Maybe, Some, None}
 use Rattle.forms.specs.Forms.{Form}
 use Rattle.forms.specs.Reads.{Answer, found, refused}
 use Rattle.forms.specs.Reader.{run, later, ended, grow, State, word, cell, step, rows_at, start, read}
-use Rattle.forms.proofs.Grow.{grown}
 use Rattle.forms.proofs.Runs.{stuck, moves}
-use Rattle.readers.specs.declared.Number.{Number}
+use Rattle.readers.specs.declared.Piece.{Piece}
 use Rattle.readers.specs.Places.{agree_from, agree_at, number_from, number_at}
 use Rattle.readers.proofs.Places.{agree-short, agree-other, agree-more, halts, goes, number_short, number-end}
-use Rattle.readers.proofs.Rows.{number-bounded}
 
 later-later : (m n : ℕ) (x : Answer (List (List ℕ))) → later m (later n x) ≡ later (m + n) x
 later-later m n (found rows) = refl
@@ -116,15 +115,14 @@ module _ (F : Form) (text : List ℕ) where
       go (yes l) known = test (eqb (get_or text at 0) b) refl l known
       go (no g) known = word-short rows b w at (omega arith)
 
-  -- a number
-  pub record Numbered (at : ℕ) (rows : List (List ℕ)) (ns : List ℕ) (m : ℕ) (cs : List ℕ) (v : Option ℕ)
-      (n next : ℕ) : Type 0 where
-    pub on : from at (cell rows ns m cs v) ≡ from next (cell rows ns m cs (some n))
-    pub stops : next < length text → grow m (some n) (get_or text next 0) ≡ none
-
   module _ (rows : List (List ℕ)) (ns : List ℕ) (m : ℕ) (cs : List ℕ) where
-    abbrev pub NumberedBy : ℕ → Option ℕ → Number → Type 0
-    NumberedBy at v x = Numbered at rows ns m cs v x.value x.next
+    -- a number, of which v has come or nothing
+    pub record Numbered (at : ℕ) (v : Option ℕ) (o : Maybe (Piece ℕ)) : Type 0 where
+      pub x : Piece ℕ
+      pub is : o ≡ Some x
+      pub far : at ≤ x.next
+      pub on : from at (cell rows ns m cs v) ≡ from x.next (cell rows ns m cs (some x.value))
+      pub stops : x.next < length text → grow m (some x.value) (get_or text x.next 0) ≡ none
 
     grow-step : (v : Option ℕ) (c w : ℕ) → grow m v c ≡ some w
         → step F (cell rows ns m cs v) c ≡ some (cell rows ns m cs (some w))
@@ -132,39 +130,48 @@ module _ (F : Form) (text : List ℕ) where
     grow-step v c w e = rw e
 
     number-on : (at : ℕ) (v : Option ℕ) (w : ℕ) → at < length text → grow m v (get_or text at 0) ≡ some w
-        → NumberedBy (suc at) (some w) (number_from m (suc at) (some w) (drop (suc at) text))
-        → NumberedBy at v (number_from m at v (drop at text))
+        → Numbered (suc at) (some w) (number_from m (suc at) (some w) (drop (suc at) text))
+        → Numbered at v (number_from m at v (drop at text))
     number-on at v w l e h =
         rw (goes m text at l v w e, add-one)
         (record {
+          x = h.x;
+          is = h.is;
+          far = let f = h.far in omega arith;
           on = move at (cell rows ns m cs v) (cell rows ns m cs (some w)) l (grow-step v (get_or text at 0) w e) ∙ h.on;
           stops = h.stops;
         })
 
+    number-done : (at v : ℕ) → (at < length text → grow m (some v) (get_or text at 0) ≡ none)
+        → Numbered at (some v) (Some (record { value = v; next = at }))
+    number-done at v stops =
+        record { x = record { value = v; next = at }; is = refl; far = omega arith; on = refl; stops = stops }
+
     number-from : (k at v : ℕ) → length text ≤ k + at
-        → NumberedBy at (some v) (number_from m at (some v) (drop at text))
-    number-from zero at v h =
-        rw (number-end m text at v (omega arith)) (record { on = refl; stops = λ l. absurd (no l h) })
+        → Numbered at (some v) (number_from m at (some v) (drop at text))
+    number-from zero at v h = rw (number-end m text at v (omega arith)) (number-done at v (λ l. absurd (no l h)))
       where
         no : at < length text → length text ≤ 0 + at → ⊥
         no l h = omega arith
     number-from (suc k) at v h = go (dec_lt at (length text)) (λ w. number-from k (suc at) w (omega arith))
       where
         test : (o : Option ℕ) → grow m (some v) (get_or text at 0) ≡ o → at < length text
-            → ((w : ℕ) → NumberedBy (suc at) (some w) (number_from m (suc at) (some w) (drop (suc at) text)))
-            → NumberedBy at (some v) (number_from m at (some v) (drop at text))
-        test none e l known = rw (halts m text at l (some v) e) (record { on = refl; stops = λ l. e })
+            → ((w : ℕ) → Numbered (suc at) (some w) (number_from m (suc at) (some w) (drop (suc at) text)))
+            → Numbered at (some v) (number_from m at (some v) (drop at text))
+        test none e l known = rw (halts m text at l (some v) e) (number-done at v (λ l. e))
         test (some w) e l known = number-on at (some v) w l e (known w)
 
         go : Dec (at < length text)
-            → ((w : ℕ) → NumberedBy (suc at) (some w) (number_from m (suc at) (some w) (drop (suc at) text)))
-            → NumberedBy at (some v) (number_from m at (some v) (drop at text))
+            → ((w : ℕ) → Numbered (suc at) (some w) (number_from m (suc at) (some w) (drop (suc at) text)))
+            → Numbered at (some v) (number_from m at (some v) (drop at text))
         go (yes l) known = test (grow m (some v) (get_or text at 0)) refl l known
-        go (no g) known = rw (number-end m text at v (omega arith)) (record { on = refl; stops = λ l. absurd (g l) })
+        go (no g) known = rw (number-end m text at v (omega arith)) (number-done at v (λ l. absurd (g l)))
 
     pub data Begun (at : ℕ) : Type 0 where
-      nothing : (number_at m text at).next ≡ at → from at (cell rows ns m cs none) ≡ refused at → Begun at
-      number : ((number_at m text at).next ≡ at → ⊥) → NumberedBy at none (number_at m text at) → Begun at
+      nothing : number_at m text at ≡ None → from at (cell rows ns m cs none) ≡ refused at → Begun at
+      number : (x : Piece ℕ) → number_at m text at ≡ Some x → at < x.next
+          → from at (cell rows ns m cs none) ≡ from x.next (cell rows ns m cs (some x.value))
+          → (x.next < length text → grow m (some x.value) (get_or text x.next 0) ≡ none) → Begun at
 
     none-step : (c : ℕ) → grow m none c ≡ none → step F (cell rows ns m cs none) c ≡ none
     unfolding step
@@ -173,21 +180,20 @@ module _ (F : Form) (text : List ℕ) where
     begun-short : (at : ℕ) → length text ≤ at → Begun at
     unfolding rows_at
     begun-short at h =
-        nothing (ap (λ (x : Number). x.next) (number_short m text at h))
-        (short at (cell rows ns m cs none) h ∙ ap refused (add-zero at))
+        nothing (number_short m text at h) (short at (cell rows ns m cs none) h ∙ ap refused (add-zero at))
 
     pub begun : (at : ℕ) → Begun at
     begun at = go (dec_lt at (length text))
       where
         test : (o : Option ℕ) → grow m none (get_or text at 0) ≡ o → at < length text → Begun at
         test none e l =
-            nothing (ap (λ (x : Number). x.next) (halts m text at l none e))
+            nothing (halts m text at l none e)
             (halt at (cell rows ns m cs none) l (none-step (get_or text at 0) e))
         test (some w) e l =
-            let fits : w ≤ m = (rw e at (grown m none (get_or text at 0))).fits in
-            let far : suc at ≤ (number_at m text at).next = rw (goes m text at l none w e, add-one)
-            (number-bounded m (suc at) (some w) (drop (suc at) text) fits).low in
-            number (λ f. omega arith) (number-on at none w l e (number-from (length text) (suc at) w (omega arith)))
+            let first = number-from (length text) (suc at) w (omega arith) in
+            number first.x (rw (goes m text at l none w e, add-one) first.is) (let f = first.far in omega arith)
+            (move at (cell rows ns m cs none) (cell rows ns m cs (some w)) l (grow-step none (get_or text at 0) w e)
+            ∙ first.on) first.stops
 
         go : Dec (at < length text) → Begun at
         go (yes l) = test (grow m none (get_or text at 0)) refl l

@@ -1,7 +1,7 @@
 -- The reader of a form, followed over a number with what ends it, and over a whole row.
 use Prim.Native.Nat.{ℕ, ◌+◌, ◌<◌, ◌≤◌}
 use mathlib.Core.Path.{◌≡◌, refl, sym, ap, ◌∙◌}
-use mathlib.Core.Bool.{Bool, true, false, cond}
+use mathlib.Core.Bool.{Bool, true, false}
 use mathlib.Core.List.{List, [], ◌∷◌, ◌++◌}
 use mathlib.Core.Option.{none, some}
 use native.Mathlib.Numerals.{add-one}
@@ -11,17 +11,16 @@ use native.Mathlib.Nat.{add-zero}
 use borrow.Author.Tests.{eq-eqb, ne_eqb, eqb-true, eqb-false}
 use lib.Dec.{eqb}
 use lib.ListN.{length, get_or}
-use Rattle.maths.specs.Padded.{padded}
+use Rattle.std.specs.Prelude.{Result, Ok, Err, MatchResult}
 use Rattle.forms.specs.Bytes.{comma}
 use Rattle.forms.specs.Forms.{ending, Form, crlf}
 use Rattle.forms.specs.Reads.{refused}
 use Rattle.forms.specs.Reader.{grow, State, word, cell, leave, step, rows_at}
-use Rattle.readers.specs.declared.Number.{Number}
-use Rattle.readers.specs.declared.Cell.{Cell}
-use Rattle.readers.specs.declared.Row.{Row}
-use Rattle.readers.specs.Places.{agree_from, agree_at, number_at, ended_by, cell_at, most_columns, row_from}
+use Rattle.readers.specs.declared.Offset.{Offset}
+use Rattle.readers.specs.declared.Piece.{Piece}
+use Rattle.readers.specs.Places.{agree_from, agree_at, ended_by, cell_at, row_from}
 use Rattle.readers.proofs.Places.{agree-short, agree-other, agree-more}
-use Rattle.readers.proofs.Rows.{number-at-bounded, cell-none, cell-some}
+use Rattle.readers.proofs.Rows.{cell-none, cell-some}
 use Rattle.readers.proofs.Along.{from, short, halt, move, alike, Agreed, agrees, differs, agreed, Begun, nothing}
 use Rattle.readers.proofs.Along.{number, begun}
 
@@ -95,68 +94,74 @@ module _ (F : Form) (text : List ℕ) (rows : List (List ℕ)) (ns : List ℕ) (
     ended_by_lem (m ∷ cs) = comma-ended m cs
 
   -- a number with what ends it
-  pub data Celled (cs : List ℕ) (at : ℕ) (x : Cell) : Type 0 where
-    full : x.whole ≡ true → at < x.next → from F text at (cell rows ns most cs none)
-        ≡ from F text x.next (past rows (ns ++ (x.value ∷ [])) cs) → Celled cs at x
-    cut : x.whole ≡ false → from F text at (cell rows ns most cs none) ≡ refused x.next → Celled cs at x
+  pub record CellOn (cs : List ℕ) (at : ℕ) (x : Piece ℕ) : Type 0 where
+    pub far : at < x.next
+    pub on : from F text at (cell rows ns most cs none) ≡ from F text x.next (past rows (ns ++ (x.value ∷ [])) cs)
 
-  celled-some : (cs : List ℕ) (at : ℕ) (x : Number) → at < x.next
+  abbrev pub Celled : List ℕ → ℕ → Result (Piece ℕ) Offset → Type 0
+  Celled cs at r =
+      MatchResult r (CellOn cs at) (λ offset. from F text at (cell rows ns most cs none) ≡ refused offset.0)
+
+  celled-some : (cs : List ℕ) (at : ℕ) (x : Piece ℕ) → at < x.next
       → from F text at (cell rows ns most cs none) ≡ from F text x.next (cell rows ns most cs (some x.value))
       → Ended cs (ending (length cs)) x.value x.next → Celled cs at (ended_by text (ending (length cs)) x)
   celled-some cs at x far on (whole e h) =
-      full (eq-eqb _ _ e) (omega arith)
-      (on ∙ h ∙ ap (λ (n : ℕ). from F text n (past rows (ns ++ (x.value ∷ [])) cs)) (sym e))
-  celled-some cs at x far on (part e h) = cut (ne_eqb _ _ e) (on ∙ h)
+      rw (ended_by, eq-eqb _ _ e)
+      (record {
+        far = omega arith;
+        on = on ∙ h ∙ ap (λ (n : ℕ). from F text n (past rows (ns ++ (x.value ∷ [])) cs)) (sym e);
+      })
+  celled-some cs at x far on (part e h) = rw (ended_by, ne_eqb _ _ e) (on ∙ h)
 
   pub celled : (cs : List ℕ) (at : ℕ) → Celled cs at (cell_at most text at (ending (length cs)))
   celled cs at = go (begun F text rows ns most cs at)
     where
       go : Begun F text rows ns most cs at → Celled cs at (cell_at most text at (ending (length cs)))
-      go (nothing e h) = rw (cell-none most text at (ending (length cs)) e) (cut refl h)
-      go (number there n) =
-          rw (← cell-some most text at (ending (length cs)) (number_at most text at) refl there
-          (agree_at text (number_at most text at).next (ending (length cs))) refl)
-          (celled-some cs at (number_at most text at) (omega (arith, (number-at-bounded most text at).low)) n.on
-          (ended_by_lem (number_at most text at).value (number_at most text at).next n.stops cs))
+      go (nothing e h) = rw (cell-none most text at (ending (length cs)) e) h
+      go (number x e far on stops) =
+          rw (cell-some most text at (ending (length cs)) x e)
+          (celled-some cs at x far on (ended_by_lem x.value x.next stops cs))
 
 module _ (F : Form) (text : List ℕ) (rows : List (List ℕ)) where
-  -- a row of these columns behind the numbers ns
-  pub record RowOn (ns : List ℕ) (most : ℕ) (mosts : List ℕ) (at : ℕ) (x : Row) : Type 0 where
-    pub row : List ℕ
-    pub numbers : x.numbers ≡ padded most_columns 0 row
+  -- a row, of which the numbers ns have come and these columns are to come
+  pub record RowOn (ns : List ℕ) (most : ℕ) (mosts : List ℕ) (at : ℕ) (x : Piece (List ℕ)) : Type 0 where
     pub far : at < x.next
-    pub on : from F text at (cell rows ns most mosts none) ≡ from F text x.next (word (rows ++ (row ∷ [])) [])
+    pub on : from F text at (cell rows ns most mosts none) ≡ from F text x.next (word (rows ++ (x.value ∷ [])) [])
 
-  pub data Rowed (ns : List ℕ) (most : ℕ) (mosts : List ℕ) (at : ℕ) (x : Row) : Type 0 where
-    whole : x.whole ≡ true → RowOn ns most mosts at x → Rowed ns most mosts at x
-    part : x.whole ≡ false → from F text at (cell rows ns most mosts none) ≡ refused x.next
-        → Rowed ns most mosts at x
+  abbrev pub Rowed : List ℕ → ℕ → List ℕ → ℕ → Result (Piece (List ℕ)) Offset → Type 0
+  Rowed ns most mosts at r =
+      MatchResult r (RowOn ns most mosts at)
+      (λ offset. from F text at (cell rows ns most mosts none) ≡ refused offset.0)
 
-  further : (ns : List ℕ) (most then : ℕ) (mosts : List ℕ) (at : ℕ) (c : Cell) (x : Row) → at < c.next
+  further : (ns : List ℕ) (most then : ℕ) (mosts : List ℕ) (at : ℕ) (c : Piece ℕ) (r : Result (Piece (List ℕ)) Offset)
+      → at < c.next
       → from F text at (cell rows ns most (then ∷ mosts) none)
       ≡ from F text c.next (cell rows (ns ++ (c.value ∷ [])) then mosts none)
-      → Rowed (ns ++ (c.value ∷ [])) then mosts c.next x → Rowed ns most (then ∷ mosts) at x
-  further ns most then mosts at c x far on (whole e r) =
-      whole e record { row = r.row; numbers = r.numbers; far = let f = r.far in omega arith; on = on ∙ r.on }
-  further ns most then mosts at c x far on (part e h) = part e (on ∙ h)
+      → Rowed (ns ++ (c.value ∷ [])) then mosts c.next r → Rowed ns most (then ∷ mosts) at r
+  further ns most then mosts at c (Ok x) far on h = record { far = let f = h.far in omega arith; on = on ∙ h.on }
+  further ns most then mosts at c (Err offset) far on h = on ∙ h
 
   pub rowed : (most : ℕ) (mosts ns : List ℕ) (at : ℕ) → Rowed ns most mosts at (row_from text ns (most ∷ mosts) at)
   unfolding row_from
   rowed most [] ns at = go (cell_at most text at crlf) (celled F text rows ns most [] at)
     where
-      go : (c : Cell) → Celled F text rows ns most [] at c
-          → Rowed ns most [] at (cond c.whole (row_from text (ns ++ (c.value ∷ [])) [] c.next)
-          (record { numbers = padded most_columns 0 []; next = c.next; whole = false }))
-      go c (full e far h) = rw e (whole refl record { row = ns ++ (c.value ∷ []); numbers = refl; far = far; on = h })
-      go c (cut e h) = rw e (part refl h)
+      go : (r : Result (Piece ℕ) Offset) → Celled F text rows ns most [] at r
+          → Rowed ns most [] at (elim r as (λ r. Result (Piece (List ℕ)) Offset) [
+            | Ok x ↦ row_from text (ns ++ (x.value ∷ [])) [] x.next
+            | Err offset ↦ Err offset
+          ])
+      go (Ok x) h = record { far = h.far; on = h.on }
+      go (Err offset) h = h
   rowed most (then ∷ mosts) ns at =
-      let c = cell_at most text at (comma ∷ []) in
-      go c (celled F text rows ns most (then ∷ mosts) at) (rowed then mosts (ns ++ (c.value ∷ [])) c.next)
+      go (cell_at most text at (comma ∷ [])) (celled F text rows ns most (then ∷ mosts) at)
+      (λ x. rowed then mosts (ns ++ (x.value ∷ [])) x.next)
     where
-      go : (c : Cell) → Celled F text rows ns most (then ∷ mosts) at c
-          → Rowed (ns ++ (c.value ∷ [])) then mosts c.next
-          (row_from text (ns ++ (c.value ∷ [])) (then ∷ mosts) c.next)
-          → Rowed ns most (then ∷ mosts) at (cond c.whole (row_from text (ns ++ (c.value ∷ [])) (then ∷ mosts)
-          c.next) (record { numbers = padded most_columns 0 []; next = c.next; whole = false }))
-      go c (full e far h) known = rw e (further ns most then mosts at c _ far h known)
-      go c (cut e h) known = rw e (part refl h)
+      go : (r : Result (Piece ℕ) Offset) → Celled F text rows ns most (then ∷ mosts) at r
+          → ((x : Piece ℕ) → Rowed (ns ++ (x.value ∷ [])) then mosts x.next
+          (row_from text (ns ++ (x.value ∷ [])) (then ∷ mosts) x.next))
+          → Rowed ns most (then ∷ mosts) at (elim r as (λ r. Result (Piece (List ℕ)) Offset) [
+            | Ok x ↦ row_from text (ns ++ (x.value ∷ [])) (then ∷ mosts) x.next
+            | Err offset ↦ Err offset
+          ])
+      go (Ok x) h known = further ns most then mosts at x _ h.far h.on (known x)
+      go (Err offset) h known = h

@@ -1,31 +1,23 @@
 -- Laws of a number with what ends it, and of a row, for the loop over its columns; no reader goes past the text.
-use Prim.Native.Nat.{ℕ, zero, suc, ◌+◌, ◌-◌, ◌<◌, ◌≤◌}
-use mathlib.Core.Path.{◌≡◌, sym, subst, ◌∙◌}
+use Prim.Native.Nat.{zero, ◌-◌, ℕ, suc, ◌+◌, ◌<◌, ◌≤◌}
+use mathlib.Core.Path.{◌≡◌, refl, sym, ◌∙◌}
 use mathlib.Core.Bool.{Bool, true, false, cond}
-use mathlib.Core.List.{List, [], ◌∷◌, ◌++◌, append_assoc, append-nil}
+use mathlib.Core.List.{List, [], ◌∷◌, ◌++◌}
 use mathlib.Core.Option
 use mathlib.Core.Option.{Option, none, some}
-use native.Mathlib.Nat.{le_trans}
-use native.Mathlib.Numerals.{add-one}
 use native.Mathlib.Omega.{arith}
 use borrow.Author.Tests.{eq-eqb, ne_eqb}
 use lib.Dec.{eqb}
 use lib.ListN.{length, drop, get_or, replicate, length-drop, drop_of_length-le}
 use lib.Seq.{drop-cons}
-use Rattle.maths.specs.Padded.{padded}
-use Rattle.maths.proofs.Padded.{get_d_padded}
-use Rattle.forms.specs.Forms
-use Rattle.forms.specs.Forms.{Form, columns, largest, ending, Within}
+use Rattle.std.specs.Prelude.{Option as Maybe, Some, None, Result, Ok, Err, IfSome, IfOk}
+use Rattle.forms.specs.Forms.{largest, ending}
 use Rattle.forms.specs.Reader.{grow}
 use Rattle.forms.proofs.Grow.{GrownIf, grown}
-use Rattle.forms.proofs.Lines.{within_snoc}
-use Rattle.forms.proofs.Sizes.{within_get_d}
-use Rattle.readers.specs.declared.Number.{Number}
-use Rattle.readers.specs.declared.Cell.{Cell}
-use Rattle.readers.specs.declared.Row.{Row}
-use Rattle.readers.specs.Places.{agree_from, agree_at, number_from, number_at}
-use Rattle.readers.specs.Places.{ended_by, cell_at, most_columns, row_from}
-use Rattle.readers.specs.Places.{row_at}
+use Rattle.readers.specs.declared.Offset.{Offset}
+use Rattle.readers.specs.declared.Piece.{Piece}
+use Rattle.readers.specs.Places.{agree_from, agree_at, bad, word_at, ends, number_from, number_at}
+use Rattle.readers.specs.Places.{ended_by, cell_at, row_from}
 use Rattle.readers.specs.Code.Digits.{Narrow}
 
 agree-bound : (next : ℕ) (word bytes : List ℕ) → agree_from next word bytes ≤ next + length bytes
@@ -53,147 +45,200 @@ agree-most next (b ∷ word) (c ∷ bytes) = go (eqb c b) (agree-most (suc next)
 pub agree-inside : (text : List ℕ) (at : ℕ) (word : List ℕ) → at ≤ length text → agree_at text at word ≤ length text
 agree-inside text at word h = omega (arith, agree-bound at word (drop at text), length-drop at text)
 
--- a number ends within the bytes, not before its place, and is at most its column's largest
-pub record Bounded (most next : ℕ) (bytes : List ℕ) (x : Number) : Type 0 where
-  pub far : x.next ≤ next + length bytes
-  pub low : next ≤ x.next
-  pub fits : x.value ≤ most
-
-pub number-bounded : (most next : ℕ) (v : Option ℕ) (bytes : List ℕ) → Option.get_or v 0 ≤ most
-    → Bounded most next bytes (number_from most next v bytes)
+-- a number ends within the text
+number-bounded : (most next : ℕ) (v : Option ℕ) (bytes : List ℕ)
+    → IfSome (number_from most next v bytes) (λ x. x.next ≤ next + length bytes)
 unfolding number_from
-number-bounded most next v [] h = record { far = omega arith; low = omega arith; fits = h }
-number-bounded most next v (c ∷ bytes) h =
-    go (grow most v c) (grown most v c) (λ w f. number-bounded most (suc next) (some w) bytes f)
+number-bounded most next none [] = tt
+number-bounded most next (some v) [] = omega arith
+number-bounded most next v (c ∷ bytes) = go v (grow most v c) (λ w. number-bounded most (suc next) (some w) bytes)
   where
-    go : (o : Option ℕ) → GrownIf most v c o
-        → ((w : ℕ) → w ≤ most → Bounded most (suc next) bytes (number_from most (suc next) (some w) bytes))
-        → Bounded most next (c ∷ bytes) (elim o as (λ o. Number) [
-          | none ↦ record { value = Option.get_or v 0; next = next }
-          | some w ↦ number_from most (suc next) (some w)
-              bytes
-        ])
-    go none f known = record { far = omega arith; low = omega arith; fits = h }
-    go (some w) f known = let b = known w f.fits in
-        record { far = omega (arith, b.far); low = omega (arith, b.low); fits = b.fits }
+    go : (v o : Option ℕ)
+        → ((w : ℕ) → IfSome (number_from most (suc next) (some w) bytes) (λ x. x.next ≤ suc next + length bytes))
+        → IfSome (elim o as (λ o. Maybe (Piece ℕ)) [
+          | none ↦ ends next v
+          | some w ↦ number_from most (suc next) (some w) bytes
+        ]) (λ x. x.next ≤ next + suc (length bytes))
+    go none none known = tt
+    go (some v) none known = omega arith
+    go v (some w) known = further (number_from most (suc next) (some w) bytes) (known w)
+      where
+        further : (o : Maybe (Piece ℕ)) → IfSome o (λ x. x.next ≤ suc next + length bytes)
+            → IfSome o (λ x. x.next ≤ next + suc (length bytes))
+        further None h = tt
+        further (Some x) h = omega arith
 
-pub number-at-bounded : (most : ℕ) (text : List ℕ) (at : ℕ) → Bounded most at (drop at text) (number_at most text at)
-number-at-bounded most text at = number-bounded most at none (drop at text) (omega arith)
+number-fits : (most next : ℕ) (v : Option ℕ) (bytes : List ℕ) → Option.get_or v 0 ≤ most
+    → IfSome (number_from most next v bytes) (λ x. x.value ≤ most)
+unfolding number_from
+number-fits most next none [] h = tt
+number-fits most next (some v) [] h = h
+number-fits most next v (c ∷ bytes) h =
+    go v h (grow most v c) (grown most v c) (λ w f. number-fits most (suc next) (some w) bytes f)
+  where
+    go : (v : Option ℕ) → Option.get_or v 0 ≤ most → (o : Option ℕ) → GrownIf most v c o
+        → ((w : ℕ) → w ≤ most → IfSome (number_from most (suc next) (some w) bytes) (λ x. x.value ≤ most))
+        → IfSome (elim o as (λ o. Maybe (Piece ℕ)) [
+          | none ↦ ends next v
+          | some w ↦ number_from most (suc next) (some w) bytes
+        ]) (λ x. x.value ≤ most)
+    go none h none f known = tt
+    go (some v) h none f known = h
+    go v h (some w) f known = known w f.fits
 
-pub number-inside : (most : ℕ) (text : List ℕ) (at : ℕ) → at ≤ length text → (number_at most text at).next ≤ length text
-number-inside most text at h = omega (arith, (number-at-bounded most text at).far, length-drop at text)
+module _ (text : List ℕ) (at : ℕ) (inside : at ≤ length text) where
+  pub word-inside : (word : List ℕ) → IfOk (word_at text at word) (λ next. next ≤ length text)
+  word-inside word = go (eqb (agree_at text at word) (at + length word))
+    where
+      go : (b : Bool)
+          → IfOk (cond b (Ok (agree_at text at word)) (bad (agree_at text at word))) (λ next. next ≤ length text)
+      go true = agree-inside text at word inside
+      go false = tt
+
+  -- the word as a loop along its bytes tells it
+  pub word-whole : (word : List ℕ) → agree_at text at word ≡ at + length word
+      → Ok (at + length word) ≡ word_at text at word
+  word-whole word e = rw (eq-eqb _ _ e, e) refl
+
+  pub word-part : (word : List ℕ) (offset : ℕ) → agree_at text at word ≡ offset → offset < at + length word
+      → bad {A = ℕ} offset ≡ word_at text at word
+  word-part word offset e l = rw (e, ne_eqb offset (at + length word) (omega arith)) refl
+
+  pub number-inside : (most : ℕ) → IfSome (number_at most text at) (λ x. x.next ≤ length text)
+  number-inside most = go (number_at most text at) (number-bounded most at none (drop at text))
+    where
+      go : (o : Maybe (Piece ℕ)) → IfSome o (λ x. x.next ≤ at + length (drop at text))
+          → IfSome o (λ x. x.next ≤ length text)
+      go None h = tt
+      go (Some x) h = omega (arith, length-drop at text)
 
 module _ (most : ℕ) (text : List ℕ) (at : ℕ) (word : List ℕ) where
-  pub cell-none : (number_at most text at).next ≡ at
-      → cell_at most text at word ≡ record { value = 0; next = at; whole = false }
+  pub cell-none : number_at most text at ≡ None → cell_at most text at word ≡ bad at
   unfolding cell_at
-  cell-none e = rw (eq-eqb (number_at most text at).next at e)
+  cell-none e = rw (cell_at, e) refl
 
-  pub cell-some : (x : Number) → x ≡ number_at most text at → (x.next ≡ at → ⊥) → (end : ℕ)
-      → end ≡ agree_at text x.next word
-      → record { value = x.value; next = end; whole = eqb end (x.next + length word) } ≡ cell_at most text at word
+  pub cell-some : (x : Piece ℕ) → number_at most text at ≡ Some x → cell_at most text at word ≡ ended_by text word x
   unfolding cell_at
-  cell-some x e there end f = rw (← e, ne_eqb x.next at there, f)
+  cell-some x e = rw (cell_at, e) refl
 
-  pub cell-inside : at ≤ length text → (cell_at most text at word).next ≤ length text
-  unfolding cell_at
-  cell-inside h = go (eqb (number_at most text at).next at)
-    where
-      go : (b : Bool) → (cond b (record { value = 0; next = at; whole = false })
-          (ended_by text word (number_at most text at))).next ≤ length text
-      go true = h
-      go false = agree-inside text (number_at most text at).next word (number-inside most text at h)
+  -- the same as the code tells it
+  pub cell-cut : (x : Piece ℕ) → Some x ≡ number_at most text at → (offset : Offset)
+      → Err offset ≡ word_at text x.next word → Err offset ≡ cell_at most text at word
+  cell-cut x e offset f = sym (cell-some x (sym e) ∙ rw (ended_by, ← f) refl)
 
-  cell-most : (cell_at most text at word).value ≤ most
-  unfolding cell_at
-  cell-most = go (eqb (number_at most text at).next at)
-    where
-      go : (b : Bool) → (cond b (record { value = 0; next = at; whole = false })
-          (ended_by text word (number_at most text at))).value ≤ most
-      go true = omega arith
-      go false = (number-at-bounded most text at).fits
-
--- what is to come of a row, from column j on, counted from 0
-module _ (text numbers mosts : List ℕ) (j next : ℕ) (less : j < length mosts) (x : Cell)
-    (e : x ≡ cell_at (get_or mosts j 0) text next (ending (length mosts - j - 1))) where
-  this : row_from text numbers (drop j mosts) next
-      ≡ cond x.whole (row_from text (numbers ++ (x.value ∷ [])) (drop (j + 1) mosts) x.next)
-      (record { numbers = padded most_columns 0 []; next = x.next; whole = false })
-  unfolding row_from
-  this =
-      let left : length (drop (suc j) mosts) ≡ length mosts - j - 1 = length-drop (suc j) mosts ∙ omega arith in
-      rw add-one (rw (drop-cons mosts j 0 less) (rw (left, ← e)))
-
-  pub row_more : x.whole ≡ true → row_from text numbers (drop j mosts) next
-      ≡ row_from text (numbers ++ (x.value ∷ [])) (drop (j + 1) mosts) x.next
-  row_more h = this ∙ rw h
-
-  pub row-stop : x.whole ≡ false → row_from text numbers (drop j mosts) next
-      ≡ record { numbers = padded most_columns 0 []; next = x.next; whole = false }
-  row-stop h = this ∙ rw h
-
-pub row-end : (text numbers mosts : List ℕ) (j next : ℕ) → length mosts ≤ j
-    → row_from text numbers (drop j mosts) next
-    ≡ record { numbers = padded most_columns 0 numbers; next = next; whole = true }
-unfolding row_from
-row-end text numbers mosts j next h = rw (drop_of_length-le mosts {i = j} h)
+  pub cell-full : (x : Piece ℕ) → Some x ≡ number_at most text at → (next : ℕ)
+      → Ok next ≡ word_at text x.next word → Ok (record { value = x.value; next = next }) ≡ cell_at most text at word
+  cell-full x e next f = sym (cell-some x (sym e) ∙ rw (ended_by, ← f) refl)
 
 module _ (text : List ℕ) where
+  pub cell-inside : (most at : ℕ) (word : List ℕ) → at ≤ length text
+      → IfOk (cell_at most text at word) (λ x. x.next ≤ length text)
+  unfolding cell_at
+  cell-inside most at word h = go (number_at most text at) (number-inside text at h most)
+    where
+      behind : (x : Piece ℕ) (r : Result ℕ Offset) → IfOk r (λ next. next ≤ length text)
+          → IfOk (elim r as (λ r. Result (Piece ℕ) Offset) [
+            | Ok next ↦ Ok (record { value = x.value; next = next })
+            | Err offset ↦ Err offset
+          ]) (λ x. x.next ≤ length text)
+      behind x (Ok next) f = f
+      behind x (Err offset) f = tt
+
+      go : (o : Maybe (Piece ℕ)) → IfSome o (λ x. x.next ≤ length text)
+          → IfOk (elim o as (λ o. Result (Piece ℕ) Offset) [ None ↦ bad at | Some x ↦ ended_by text word x ])
+          (λ x. x.next ≤ length text)
+      go None f = tt
+      go (Some x) f = behind x (word_at text x.next word) (word-inside text x.next f word)
+
   pub row_inside : (numbers mosts : List ℕ) (at : ℕ) → at ≤ length text
-      → (row_from text numbers mosts at).next ≤ length text
+      → IfOk (row_from text numbers mosts at) (λ row. row.next ≤ length text)
   unfolding row_from
   row_inside numbers [] at h = h
   row_inside numbers (most ∷ mosts) at h =
-      let c = cell_at most text at (ending (length mosts)) in
-      let inside = cell-inside most text at (ending (length mosts)) h in
-      go c inside (row_inside (numbers ++ (c.value ∷ [])) mosts c.next inside)
+      go (cell_at most text at (ending (length mosts))) (cell-inside most at (ending (length mosts)) h)
+      (λ x f. row_inside (numbers ++ (x.value ∷ [])) mosts x.next f)
     where
-      go : (c : Cell) → c.next ≤ length text
-          → (row_from text (numbers ++ (c.value ∷ [])) mosts c.next).next ≤ length text
-          → (cond c.whole (row_from text (numbers ++ (c.value ∷ [])) mosts c.next)
-          (record { numbers = padded most_columns 0 []; next = c.next; whole = false })).next ≤ length text
-      go c f g = by c.whole
-        where
-          by : (b : Bool) → (cond b (row_from text (numbers ++ (c.value ∷ [])) mosts c.next)
-              (record { numbers = padded most_columns 0 []; next = c.next; whole = false })).next ≤ length text
-          by true = g
-          by false = f
+      go : (r : Result (Piece ℕ) Offset) → IfOk r (λ x. x.next ≤ length text)
+          → ((x : Piece ℕ) → x.next ≤ length text
+          → IfOk (row_from text (numbers ++ (x.value ∷ [])) mosts x.next) (λ row. row.next ≤ length text))
+          → IfOk (elim r as (λ r. Result (Piece (List ℕ)) Offset) [
+            | Ok x ↦ row_from text (numbers ++ (x.value ∷ [])) mosts x.next
+            | Err offset ↦ Err offset
+          ]) (λ row. row.next ≤ length text)
+      go (Ok x) f known = known x f
+      go (Err offset) f known = tt
 
-  -- no number of a row is above its column's largest
-  row_within : (past numbers mosts : List ℕ) (at i : ℕ) → Within past numbers → i < most_columns
-      → get_or (row_from text numbers mosts at).numbers i 0 ≤ get_or (past ++ mosts) i 0
+-- what is to come of a row, from column j on, counted from 0
+module _ (text numbers mosts : List ℕ) (j next : ℕ) (less : j < length mosts) where
+  this : row_from text numbers (drop j mosts) next
+      ≡ elim (cell_at (get_or mosts j 0) text next (ending (length mosts - j - 1)))
+      as (λ r. Result (Piece (List ℕ)) Offset) [
+        | Ok x ↦ row_from text (numbers ++ (x.value ∷ [])) (drop (suc j) mosts) x.next
+        | Err offset ↦ Err offset
+      ]
   unfolding row_from
-  row_within past numbers [] at i w l = rw (append-nil past, get_d_padded 0 most_columns numbers i l) (within_get_d w i)
-  row_within past numbers (most ∷ mosts) at i w l =
-      let c = cell_at most text at (ending (length mosts)) in
-      by c.whole (rw append_assoc at (row_within (past ++ (most ∷ [])) (numbers ++ (c.value ∷ [])) mosts c.next i
-      (within_snoc w (cell-most most text at (ending (length mosts)))) l))
+  this =
+      let left : length (drop (suc j) mosts) ≡ length mosts - j - 1 = length-drop (suc j) mosts ∙ omega arith in
+      rw (drop-cons mosts j 0 less) (rw (row_from, left) refl)
+
+  pub row_more : (x : Piece ℕ) → Ok x ≡ cell_at (get_or mosts j 0) text next (ending (length mosts - j - 1))
+      → row_from text numbers (drop j mosts) next
+      ≡ row_from text (numbers ++ (x.value ∷ [])) (drop (suc j) mosts) x.next
+  row_more x e = this ∙ rw (← e) refl
+
+  pub row-stop : (offset : Offset) → Err offset ≡ cell_at (get_or mosts j 0) text next (ending (length mosts - j - 1))
+      → row_from text numbers (drop j mosts) next ≡ Err offset
+  row-stop offset e = this ∙ rw (← e) refl
+
+pub row-end : (text numbers mosts : List ℕ) (j next : ℕ) → length mosts ≤ j
+    → row_from text numbers (drop j mosts) next ≡ Ok (record { value = numbers; next = next })
+unfolding row_from
+row-end text numbers mosts j next h = rw (drop_of_length-le mosts {i = j} h) refl
+
+-- no number of a row is above its column's largest
+narrow_more : (numbers : List ℕ) (v : ℕ) → v ≤ largest → Narrow numbers → Narrow (numbers ++ (v ∷ []))
+narrow_more [] v l h zero = l
+narrow_more [] v l h (suc i) = omega arith
+narrow_more (n ∷ numbers) v l h zero = h 0
+narrow_more (n ∷ numbers) v l h (suc i) = narrow_more numbers v l (λ i. h (suc i)) i
+
+module _ (text : List ℕ) where
+  cell-fits : (most at : ℕ) (word : List ℕ) → IfOk (cell_at most text at word) (λ x. x.value ≤ most)
+  unfolding cell_at
+  cell-fits most at word = go (number_at most text at) (number-fits most at none (drop at text) (omega arith))
     where
-      by : (b : Bool)
-          → get_or (row_from text (numbers ++ ((cell_at most text at (ending (length mosts))).value ∷ [])) mosts
-          (cell_at most text at (ending (length mosts))).next).numbers i 0 ≤ get_or (past ++ (most ∷ mosts)) i 0
-          → get_or (cond b (row_from text (numbers ++ ((cell_at most text at (ending (length mosts))).value ∷ [])) mosts
-          (cell_at most text at (ending (length mosts))).next) (record {
-            numbers = padded most_columns 0 [];
-            next = (cell_at most text at (ending (length mosts))).next;
-            whole = false;
-          })).numbers i 0
-          ≤ get_or (past ++ (most ∷ mosts)) i 0
-      by true h = h
-      by false h = rw (get_d_padded {A = ℕ} 0 most_columns [] i l) (omega arith)
+      behind : (x : Piece ℕ) → x.value ≤ most → (r : Result ℕ Offset)
+          → IfOk (elim r as (λ r. Result (Piece ℕ) Offset) [
+            | Ok next ↦ Ok (record { value = x.value; next = next })
+            | Err offset ↦ Err offset
+          ]) (λ x. x.value ≤ most)
+      behind x f (Ok next) = f
+      behind x f (Err offset) = tt
 
-  pub row-most : (mosts : List ℕ) (at i : ℕ) → i < most_columns
-      → get_or (row_from text [] mosts at).numbers i 0 ≤ get_or mosts i 0
-  row-most mosts at i l = row_within [] [] mosts at i Forms.none l
+      go : (o : Maybe (Piece ℕ)) → IfSome o (λ x. x.value ≤ most)
+          → IfOk (elim o as (λ o. Result (Piece ℕ) Offset) [ None ↦ bad at | Some x ↦ ended_by text word x ])
+          (λ x. x.value ≤ most)
+      go None f = tt
+      go (Some x) f = behind x f (word_at text x.next word)
 
-replicate-most : (n i : ℕ) → get_or (replicate n largest) i 0 ≤ largest
-replicate-most zero i = omega arith
-replicate-most (suc n) zero = omega arith
-replicate-most (suc n) (suc i) = replicate-most n i
+  narrow_from : (numbers : List ℕ) (n at : ℕ) → Narrow numbers
+      → IfOk (row_from text numbers (replicate n largest) at) (λ row. Narrow row.value)
+  unfolding row_from
+  narrow_from numbers zero at h = h
+  narrow_from numbers (suc n) at h =
+      go (cell_at largest text at (ending (length (replicate n largest))))
+      (cell-fits largest at (ending (length (replicate n largest))))
+      (λ x f. narrow_from (numbers ++ (x.value ∷ [])) n x.next (narrow_more numbers x.value f h))
+    where
+      go : (r : Result (Piece ℕ) Offset) → IfOk r (λ x. x.value ≤ largest)
+          → ((x : Piece ℕ) → x.value ≤ largest
+          → IfOk (row_from text (numbers ++ (x.value ∷ [])) (replicate n largest) x.next) (λ row. Narrow row.value))
+          → IfOk (elim r as (λ r. Result (Piece (List ℕ)) Offset) [
+            | Ok x ↦ row_from text (numbers ++ (x.value ∷ [])) (replicate n largest) x.next
+            | Err offset ↦ Err offset
+          ]) (λ row. Narrow row.value)
+      go (Ok x) f known = known x f
+      go (Err offset) f known = tt
 
-pub row-narrow : (F : Form) (n : ℕ) → columns F ≡ replicate n largest → (text : List ℕ) (at : ℕ) (x : Row)
-    → x ≡ row_at text at F → Narrow x.numbers
-row-narrow F n shape text at x e i l =
-    let most : get_or (columns F) i 0 ≤ largest =
-    subst (λ (ms : List ℕ). get_or ms i 0 ≤ largest) (sym shape) (replicate-most n i) in
-    rw e (le_trans (row-most text (columns F) at i l) most)
+  pub row-narrow : (n at : ℕ) (x : Piece (List ℕ)) → Ok x ≡ row_from text [] (replicate n largest) at → Narrow x.value
+  row-narrow n at x e = rw (← e) at (narrow_from [] n at (λ i. omega arith))

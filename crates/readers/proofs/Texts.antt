@@ -1,51 +1,56 @@
 -- The reader of a form, followed over a whole text, line by line.
 use Prim.Native.Nat.{ℕ, ◌+◌, ◌<◌, ◌≤◌}
 use mathlib.Core.Path.{◌≡◌, refl, sym, ap, ◌∙◌}
-use mathlib.Core.Bool.{Bool, true, false}
+use mathlib.Core.Bool.{true, false}
 use mathlib.Core.List.{List, [], ◌∷◌, ◌++◌}
 use mathlib.Core.Option.{none}
+use borrow.Author.Tests.{eq-eqb, ne_eqb}
 use native.Mathlib.Omega.{arith}
 use lib.ListN.{length, get_or, length-append}
+use Rattle.std.specs.Prelude.{Ok, Err}
 use Rattle.forms.specs.Forms.{Form, columns, crlf}
 use Rattle.forms.specs.Reads.{found, refused}
 use Rattle.forms.specs.Reader.{State, word, cell, may_begin, may_end, step, rows_at, read}
-use Rattle.readers.specs.declared.Row.{Row}
-use Rattle.readers.specs.Places.{agree_at, row_at}
-use Rattle.readers.proofs.Rows.{agree-most, agree-inside, row_inside}
+use Rattle.readers.specs.declared.Offset.{Offset}
+use Rattle.readers.specs.declared.Piece.{Piece}
+use Rattle.readers.specs.Places.{agree_at, bad, word_at, row_at}
+use Rattle.readers.proofs.Rows.{word-inside, row_inside}
 use Rattle.readers.proofs.Along
 use Rattle.readers.proofs.Along.{from, short, halt, alike-inside, alike, Agreed, agrees, differs, agreed}
-use Rattle.readers.proofs.Cells
-use Rattle.readers.proofs.Cells.{RowOn, Rowed, rowed}
-
-not-both : {P : Type 0} (b : Bool) → b ≡ true → b ≡ false → P
-not-both b e f = absurd (no (sym e ∙ f))
-  where
-    no : true ≡ false → ⊥
-    no e = let z : ◌≡◌ {A = ℕ} 0 1 = cc in omega arith
+use Rattle.readers.proofs.Cells.{RowOn, rowed}
 
 module _ (F : Form) (text : List ℕ) where
   abbrev head : List ℕ
   head = F.header ++ crlf
 
   -- the header, and CR LF
-  pub head-bad : (k : ℕ) → k ≡ agree_at text 0 (F.header ++ crlf) → k < length (F.header ++ crlf)
-      → read F text ≡ refused k
-  head-bad k e l = Along.whole F text ∙ go (agreed F text [] head 0) ∙ ap refused (sym e)
+  pub head-bad : (offset : Offset) → Err offset ≡ word_at text 0 (F.header ++ crlf) → read F text ≡ refused offset.0
+  head-bad offset e = Along.whole F text ∙ go (agreed F text [] head 0) e
     where
-      go : Agreed F text [] head 0 → from F text 0 (word [] head) ≡ refused (agree_at text 0 head)
-      go (agrees f h) = absurd (no f)
+      go : Agreed F text [] head 0 → Err offset ≡ word_at text 0 head → from F text 0 (word [] head) ≡ refused offset.0
+      go (agrees f h) e = absurd (no (rw (eq-eqb _ _ f) at e))
         where
-          no : agree_at text 0 head ≡ 0 + length head → ⊥
-          no f = omega arith
-      go (differs f h) = h
+          no : Err offset ≡ Ok (agree_at text 0 head) → ⊥
+          no e = let z : ◌≡◌ {A = ℕ} 0 1 = cc in omega arith
+      go (differs f h) e =
+          let same : offset.0 ≡ agree_at text 0 head = cc (rw (ne_eqb _ _ f) at e) in
+          h ∙ ap refused (sym same)
 
-  pub head-good : (k : ℕ) → k ≡ agree_at text 0 (F.header ++ crlf) → length (F.header ++ crlf) ≤ k
-      → read F text ≡ from F text k (word [] [])
-  head-good k e l = Along.whole F text ∙ go (agreed F text [] head 0)
+  pub head-good : (k : ℕ) → Ok k ≡ word_at text 0 (F.header ++ crlf) → read F text ≡ from F text k (word [] [])
+  head-good k e = Along.whole F text ∙ go (agreed F text [] head 0) e
     where
-      go : Agreed F text [] head 0 → from F text 0 (word [] head) ≡ from F text k (word [] [])
-      go (agrees f h) = h ∙ ap (λ (n : ℕ). from F text n (word [] [])) (sym f ∙ sym e)
-      go (differs f h) = absurd (f (let m = agree-most 0 head text in omega arith))
+      go : Agreed F text [] head 0 → Ok k ≡ word_at text 0 head
+          → from F text 0 (word [] head) ≡ from F text k (word [] [])
+      go (agrees f h) e =
+          let same : k ≡ agree_at text 0 head = cc (rw (eq-eqb _ _ f) at e) in
+          h ∙ ap (λ (n : ℕ). from F text n (word [] [])) (sym f ∙ sym same)
+      go (differs f h) e = absurd (no (rw (ne_eqb _ _ f) at e))
+        where
+          no : Ok k ≡ bad (agree_at text 0 head) → ⊥
+          no e = let z : ◌≡◌ {A = ℕ} 0 1 = cc in omega arith
+
+  pub head-inside : (k : ℕ) → Ok k ≡ word_at text 0 (F.header ++ crlf) → k ≤ length text
+  head-inside k e = rw (← e) at (word-inside text 0 (omega arith) (F.header ++ crlf))
 
   pub ends : (rows : List (List ℕ)) (at : ℕ) → may_end F.one rows ≡ true → length text ≤ at
       → from F text at (word rows []) ≡ found rows
@@ -77,20 +82,11 @@ module _ (F : Form) (text : List ℕ) where
     unfolding rows_at
     must_begin e f = alike F text at (word rows []) opening (rw f) (λ l. begin_step e (get_or text at 0))
 
-    module _ (x : Row) (e : x ≡ row_at text at F) where
-      pub row-good : x.whole ≡ true → RowOn F text rows [] F.first F.others at x
-      row-good h = go (rw (← e) at (rowed F text rows F.first F.others [] at))
-        where
-          go : Rowed F text rows [] F.first F.others at x → RowOn F text rows [] F.first F.others at x
-          go (Cells.whole f r) = r
-          go (Cells.part f r) = not-both x.whole h f
+    pub row-good : (x : Piece (List ℕ)) → Ok x ≡ row_at text at F → RowOn F text rows [] F.first F.others at x
+    row-good x e = rw (← e) at (rowed F text rows F.first F.others [] at)
 
-      pub row-bad : x.whole ≡ false → from F text at opening ≡ refused x.next
-      row-bad h = go (rw (← e) at (rowed F text rows F.first F.others [] at))
-        where
-          go : Rowed F text rows [] F.first F.others at x → from F text at opening ≡ refused x.next
-          go (Cells.whole f r) = not-both x.whole f h
-          go (Cells.part f r) = r
+    pub row-bad : (offset : Offset) → Err offset ≡ row_at text at F → from F text at opening ≡ refused offset.0
+    row-bad offset e = rw (← e) at (rowed F text rows F.first F.others [] at)
 
 -- at a line's beginning, where these n rows have come and any number may
 pub record Line (F : Form) (text : List ℕ) (rows : List (List ℕ)) (at n : ℕ) : Type 0 where
@@ -100,13 +96,12 @@ pub record Line (F : Form) (text : List ℕ) (rows : List (List ℕ)) (at n : �
   pub few : n ≤ at
 
 module _ (F : Form) (many : F.one ≡ false) (text : List ℕ) where
-  pub line-start : (k : ℕ) → k ≡ agree_at text 0 (F.header ++ crlf)
-      → length (F.header ++ crlf) ≤ k → Line F text [] k 0
-  line-start k e h =
+  pub line-start : (k : ℕ) → Ok k ≡ word_at text 0 (F.header ++ crlf) → Line F text [] k 0
+  line-start k e =
       record {
-        on = head-good F text k e h;
+        on = head-good F text k e;
         count = refl;
-        inside = rw e (agree-inside text 0 (F.header ++ crlf) (omega arith));
+        inside = head-inside F text k e;
         few = omega arith;
       }
 
@@ -114,19 +109,20 @@ module _ (F : Form) (many : F.one ≡ false) (text : List ℕ) where
     pub line-end : length text ≤ at → read F text ≡ found rows
     line-end l = h.on ∙ ends F text rows at (rw many) l
 
-    module _ (less : at < length text) (x : Row) (e : x ≡ row_at text at F) where
-      pub line-bad : x.whole ≡ false → read F text ≡ refused x.next
-      line-bad f = h.on ∙ begins F text rows at (rw many) less ∙ row-bad F text rows at x e f
+    module _ (less : at < length text) where
+      pub line-bad : (offset : Offset) → Err offset ≡ row_at text at F → read F text ≡ refused offset.0
+      line-bad offset e = h.on ∙ begins F text rows at (rw many) less ∙ row-bad F text rows at offset e
 
-      pub line_row : x.whole ≡ true → RowOn F text rows [] F.first F.others at x
-      line_row f = row-good F text rows at x e f
+      module _ (x : Piece (List ℕ)) (e : Ok x ≡ row_at text at F) where
+        pub line_row : RowOn F text rows [] F.first F.others at x
+        line_row = row-good F text rows at x e
 
-      pub line-next : (f : x.whole ≡ true) → Line F text (rows ++ ((line_row f).row ∷ [])) x.next (n + 1)
-      line-next f =
-          let r = line_row f in
-          record {
-            on = h.on ∙ begins F text rows at (rw many) less ∙ r.on;
-            count = let c = h.count in simp length-append (omega arith);
-            inside = rw e (row_inside text [] (columns F) at h.inside);
-            few = let c = h.few in let g = r.far in omega arith;
-          }
+        pub line-next : Line F text (rows ++ (x.value ∷ [])) x.next (n + 1)
+        line-next =
+            let r = line_row in
+            record {
+              on = h.on ∙ begins F text rows at (rw many) less ∙ r.on;
+              count = let c = h.count in simp length-append (omega arith);
+              inside = rw (← e) at (row_inside text [] (columns F) at h.inside);
+              few = let c = h.few in let g = r.far in omega arith;
+            }

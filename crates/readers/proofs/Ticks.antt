@@ -4,31 +4,27 @@ use mathlib.Core.Path.{◌≡◌, refl, sym, ap, ◌∙◌}
 use mathlib.Core.Bool.{Bool, true, false}
 use mathlib.Core.List.{List, [], ◌∷◌, ◌++◌}
 use native.Mathlib.Omega.{arith}
-use native.Mathlib.Decide.{dec_lt}
-use lib.Dec.{lit<}
+use borrow.Author.Tests.{eqb-true}
+use lib.Dec.{eqb}
 use lib.ListN.{length, drop}
-use Rattle.maths.specs.Padded.{padded}
-use Rattle.maths.proofs.Padded.{get_d_padded}
+use Rattle.std.specs.Prelude.{Result, Ok, Err}
 use Rattle.forms.specs.Bytes.{comma}
 use Rattle.forms.specs.Forms.{largest, columns, ticks_form, crlf}
 use Rattle.forms.specs.Reads.{Answer, found, refused}
 use Rattle.forms.specs.Reader.{run, later, word, step, rows_at, read}
 use Rattle.forms.proofs.Shift.{prefixed, shift-run}
-use Rattle.readers.specs.declared.Number.{Number}
+use Rattle.readers.specs.declared.Offset.{Offset}
+use Rattle.readers.specs.declared.Piece.{Piece}
 use Rattle.readers.specs.Inputs.{tick_of, first_tick, tick_at}
-use Rattle.readers.specs.Places.{agree_at, number_at, cell_at, most_columns, row_from, row_at}
+use Rattle.readers.specs.Places.{agree_at, row_from, row_at}
 use Rattle.readers.proofs.Along.{from}
 use Rattle.readers.proofs.Places.{number_short}
-use Rattle.readers.proofs.Rows.{agree-most, cell-none, row_inside}
+use Rattle.readers.proofs.Rows.{cell-none, row_inside}
 use Rattle.readers.proofs.Texts.{Line, head-bad, head-good, ends, opening, begins, row-good, row-bad}
 
 -- from this place on, as if it were the first line, these rows
 abbrev pub Rest : List ℕ → ℕ → List (List ℕ) → Type 0
 Rest text at rows = from ticks_form text at (word [] []) ≡ found rows
-
-same-tick : (numbers row : List ℕ) → numbers ≡ padded most_columns 0 row → tick_of numbers ≡ tick_of row
-same-tick numbers row e = ap tick_of e
-    ∙ rw (get_d_padded 0 most_columns row 0 (lit< tt), get_d_padded 0 most_columns row 1 (lit< tt))
 
 -- a first row, and what follows it
 split : (row : List ℕ) (text : List ℕ) (at : ℕ) (rows : List (List ℕ))
@@ -53,23 +49,33 @@ split row text at rows e = go (run (step ticks_form) (rows_at ticks_form) (word 
         no e = let z : ◌≡◌ {A = ℕ} 0 1 = cc in omega arith
 
 pub ticks-start : (text : List ℕ) (rows : List (List ℕ)) → read ticks_form text ≡ found rows → Rest text first_tick rows
-ticks-start text rows e = go (dec_lt (agree_at text 0 (ticks_form.header ++ crlf)) first_tick)
+ticks-start text rows e = go (eqb (agree_at text 0 (ticks_form.header ++ crlf)) first_tick) refl
   where
-    go : Dec (agree_at text 0 (ticks_form.header ++ crlf) < first_tick) → Rest text first_tick rows
-    go (yes l) = absurd (no (sym e ∙ head-bad ticks_form text _ refl l))
+    go : (b : Bool) → eqb (agree_at text 0 (ticks_form.header ++ crlf)) first_tick ≡ b → Rest text first_tick rows
+    go false f = absurd (no (sym e ∙ head-bad ticks_form text _ (rw f refl)))
       where
         no : found rows ≡ refused (agree_at text 0 (ticks_form.header ++ crlf)) → ⊥
         no e = let z : ◌≡◌ {A = ℕ} 0 1 = cc in omega arith
-    go (no g) =
-        let all : agree_at text 0 (ticks_form.header ++ crlf) ≡ first_tick =
-        omega (arith, agree-most 0 (ticks_form.header ++ crlf) text) in
+    go true f =
+        let all : agree_at text 0 (ticks_form.header ++ crlf) ≡ first_tick = eqb-true _ _ f in
         ap (λ (n : ℕ). from ticks_form text n (word [] [])) (sym all)
-        ∙ sym (head-good ticks_form text _ refl (omega arith)) ∙ e
+        ∙ sym (head-good ticks_form text _ (rw f refl)) ∙ e
 
 pub ticks-end : (text : List ℕ) (at : ℕ) (rows : List (List ℕ)) → Rest text at rows → length text ≤ at → rows ≡ []
 ticks-end text at rows e h =
     let same : found rows ≡ found [] = sym e ∙ ends ticks_form text [] at refl h in
     cc
+
+module _ (text : List ℕ) (at : ℕ) where
+  pub tick-there : (x : Piece (List ℕ)) → Ok x ≡ row_at text at ticks_form
+      → tick_at text at ≡ record { tick = tick_of x.value; next = x.next }
+  unfolding tick_at
+  tick-there x e = rw (tick_at, ← e) refl
+
+  pub tick-not : (offset : Offset) → Err offset ≡ row_at text at ticks_form
+      → tick_at text at ≡ record { tick = record { released = 0; finished = 0 }; next = offset.0 }
+  unfolding tick_at
+  tick-not offset e = rw (tick_at, ← e) refl
 
 pub record TickOn (text : List ℕ) (at : ℕ) (rows : List (List ℕ)) : Type 0 where
   pub row : List ℕ
@@ -82,36 +88,35 @@ pub record TickOn (text : List ℕ) (at : ℕ) (rows : List (List ℕ)) : Type 0
 
 pub ticks-next : (text : List ℕ) (at : ℕ) (rows : List (List ℕ)) → Rest text at rows
     → at < length text → TickOn text at rows
-unfolding tick_at
-ticks-next text at rows e l = go (row_at text at ticks_form).whole refl
+ticks-next text at rows e l = go (row_at text at ticks_form) refl
   where
     behind : from ticks_form text at (word [] []) ≡ from ticks_form text at (opening ticks_form text [] at)
     behind = begins ticks_form text [] at refl l
 
-    go : (b : Bool) → (row_at text at ticks_form).whole ≡ b → TickOn text at rows
-    go true f =
-        let r = row-good ticks_form text [] at (row_at text at ticks_form) refl f in
-        let s = split r.row text (row_at text at ticks_form).next rows (sym r.on ∙ sym behind ∙ e) in
+    go : (r : Result (Piece (List ℕ)) Offset) → r ≡ row_at text at ticks_form → TickOn text at rows
+    go (Ok x) f =
+        let r = row-good ticks_form text [] at x f in
+        let s = split x.value text x.next rows (sym r.on ∙ sym behind ∙ e) in
+        let there = tick-there text at x f in
         record {
-          row = r.row;
+          row = x.value;
           more = s.0;
           rows_are = s.1;
-          tick = same-tick (row_at text at ticks_form).numbers r.row r.numbers;
-          far = r.far;
-          inside = row_inside text [] (columns ticks_form) at (omega arith);
-          rest = s.2;
+          tick = rw there refl;
+          far = rw there r.far;
+          inside = rw there (rw (← f) at (row_inside text [] (columns ticks_form) at (omega arith)));
+          rest = rw there s.2;
         }
-    go false f = absurd (no (sym e ∙ behind ∙ row-bad ticks_form text [] at (row_at text at ticks_form) refl f))
+    go (Err offset) f = absurd (no (sym e ∙ behind ∙ row-bad ticks_form text [] at offset f))
       where
-        no : found rows ≡ refused (row_at text at ticks_form).next → ⊥
+        no : found rows ≡ refused offset.0 → ⊥
         no e = let z : ◌≡◌ {A = ℕ} 0 1 = cc in omega arith
 
 pub tick-short : (text : List ℕ) (at : ℕ) → length text ≤ at
     → tick_at text at ≡ record { tick = record { released = 0; finished = 0 }; next = at }
-unfolding tick_at row_from cell_at padded
+unfolding tick_at row_from
 tick-short text at h =
-    let n : number_at largest text at ≡ record { value = 0; next = at } = number_short largest text at h in
-    rw (cell-none largest text at (comma ∷ []) (ap (λ (x : Number). x.next) n))
+    rw (tick_at, row_from, cell-none largest text at (comma ∷ []) (number_short largest text at h)) refl
 
 -- at a line's beginning, where n rows have come
 pub record Counted (text : List ℕ) (at n : ℕ) : Type 0 where

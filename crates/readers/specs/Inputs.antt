@@ -48,7 +48,10 @@ ticks_read (refused offset) = Err (bad_text offset)
 abbrev pub first_tick : ℕ
 first_tick = length (ticks_form.header ++ crlf)
 
+-- where no row is, both sets are empty
 unfoldable pub tick_at : List ℕ → ℕ → TickRead
 tick_at text at =
-    let row = row_at text at ticks_form in
-    record { tick = tick_of row.numbers; next = row.next }
+    elim (row_at text at ticks_form) [
+      | Ok row ↦ record { tick = tick_of row.value; next = row.next }
+      | Err offset ↦ record { tick = tick_of []; next = offset.0 }
+    ]

@@ -1,13 +1,12 @@
 -- What stands at a place of a text: fixed bytes, a number, a number with what ends it, a row. Each is read as far as it
--- goes, and says where that is.
-use Rattle.std.specs.Prelude.{ℕ, suc, ◌+◌, true, false, cond, List, [], ◌∷◌, ◌++◌, eqb, length, drop}
-use Rattle.std.proofs.Math.Option.{Option, none, some, get_or}
-use Rattle.maths.specs.Padded.{padded}
-use Rattle.forms.specs.Forms.{Form, columns, tasks_form, ending}
+-- goes; what is not there ends at the first byte that may not stand there.
+use Rattle.std.specs.Prelude.{ℕ, suc, ◌+◌, cond, List, [], ◌∷◌, ◌++◌, eqb, length, drop}
+use Rattle.std.specs.Prelude.{Option as Maybe, Some, None, Result, Ok, Err}
+use Rattle.std.proofs.Math.Option.{Option, none, some}
+use Rattle.forms.specs.Forms.{Form, columns, ending}
 use Rattle.forms.specs.Reader.{grow}
-use Rattle.readers.specs.declared.Number.{Number}
-use Rattle.readers.specs.declared.Cell.{Cell}
-use Rattle.readers.specs.declared.Row.{Row}
+use Rattle.readers.specs.declared.Offset.{Offset}
+use Rattle.readers.specs.declared.Piece.{Piece}
 
 -- the place up to which the bytes agree with the word
 unfoldable pub agree_from : ℕ → List ℕ → List ℕ → ℕ
@@ -18,40 +17,49 @@ agree_from next (b ∷ word) (c ∷ bytes) = cond (eqb c b) (agree_from (suc nex
 abbrev pub agree_at : List ℕ → ℕ → List ℕ → ℕ
 agree_at text at word = agree_from at word (drop at text)
 
+abbrev pub bad : {A : Type 0} → ℕ → Result A Offset
+bad offset = Err (record { 0 = offset })
+
+abbrev pub word_at : List ℕ → ℕ → List ℕ → Result ℕ Offset
+word_at text at word =
+    let next = agree_at text at word in
+    cond (eqb next (at + length word)) (Ok next) (bad next)
+
+-- a number that ends here, of which v has come, or nothing
+abbrev pub ends : ℕ → Option ℕ → Maybe (Piece ℕ)
+ends next none = None
+ends next (some v) = Some (record { value = v; next = next })
+
 -- the number of a column of which v has come, or nothing
-unfoldable pub number_from : ℕ → ℕ → Option ℕ → List ℕ → Number
-number_from most next v [] = record { value = get_or v 0; next = next }
+unfoldable pub number_from : ℕ → ℕ → Option ℕ → List ℕ → Maybe (Piece ℕ)
+number_from most next v [] = ends next v
 number_from most next v (c ∷ bytes) =
     elim (grow most v c) [
-      | none ↦ record { value = get_or v 0; next = next }
+      | none ↦ ends next v
       | some w ↦ number_from most (suc next) (some w) bytes
     ]
 
--- where no number begins, `next` is the place itself
-abbrev pub number_at : ℕ → List ℕ → ℕ → Number
+abbrev pub number_at : ℕ → List ℕ → ℕ → Maybe (Piece ℕ)
 number_at most text at = number_from most at none (drop at text)
 
-abbrev pub ended_by : List ℕ → List ℕ → Number → Cell
+abbrev pub ended_by : List ℕ → List ℕ → Piece ℕ → Result (Piece ℕ) Offset
 ended_by text word x =
-    let next = agree_at text x.next word in
-    record { value = x.value; next = next; whole = eqb next (x.next + length word) }
+    elim (word_at text x.next word) [
+      | Ok next ↦ Ok (record { value = x.value; next = next })
+      | Err offset ↦ Err offset
+    ]
 
-unfoldable pub cell_at : ℕ → List ℕ → ℕ → List ℕ → Cell
-cell_at most text at word =
-    let x = number_at most text at in
-    cond (eqb x.next at) (record { value = 0; next = at; whole = false }) (ended_by text word x)
-
--- no form has more columns: `Row::MOST`
-abbrev pub most_columns : ℕ
-most_columns = length (columns tasks_form)
+unfoldable pub cell_at : ℕ → List ℕ → ℕ → List ℕ → Result (Piece ℕ) Offset
+cell_at most text at word = elim (number_at most text at) [ None ↦ bad at | Some x ↦ ended_by text word x ]
 
 -- numbers that have come, and the columns that are to come
-unfoldable pub row_from : List ℕ → List ℕ → List ℕ → ℕ → Row
-row_from text numbers [] next = record { numbers = padded most_columns 0 numbers; next = next; whole = true }
+unfoldable pub row_from : List ℕ → List ℕ → List ℕ → ℕ → Result (Piece (List ℕ)) Offset
+row_from text numbers [] next = Ok (record { value = numbers; next = next })
 row_from text numbers (most ∷ mosts) next =
-    let c = cell_at most text next (ending (length mosts)) in
-    let more = row_from text (numbers ++ (c.value ∷ [])) mosts c.next in
-    cond c.whole more (record { numbers = padded most_columns 0 []; next = c.next; whole = false })
+    elim (cell_at most text next (ending (length mosts))) [
+      | Ok x ↦ row_from text (numbers ++ (x.value ∷ [])) mosts x.next
+      | Err offset ↦ Err offset
+    ]
 
-abbrev pub row_at : List ℕ → ℕ → Form → Row
+abbrev pub row_at : List ℕ → ℕ → Form → Result (Piece (List ℕ)) Offset
 row_at text at F = row_from text [] (columns F) at

@@ -1,92 +1,64 @@
 // Readers of document 01's texts. Each reads as far as a good text could go, and says where that is.
 #![tactic(auto)]
 
-ghost use Rattle.std.specs.Prelude.{◌+◌, ◌*◌, ◌<◌, ◌≤◌, ◌≡◌, false, [], leb, length};
+ghost use Rattle.std.specs.Prelude.{◌+◌, ◌*◌, ◌<◌, ◌≤◌, ◌≡◌, [], leb, length};
 ghost use Rattle.forms.specs.Forms.{ending, platform_form, tasks_form, ticks_form};
-ghost use Rattle.forms.specs.Reads.{refused};
 ghost use Rattle.forms.specs.Reader.{read};
-ghost use Rattle.readers.specs.Inputs.{no_platform, task_of, platform_read, table_read, ticks_read, tick_at};
-ghost use Rattle.readers.specs.Places.{agree_at, number_at, cell_at, most_columns, row_from};
+ghost use Rattle.readers.specs.Inputs.{bad_text, platform_of, platform_read, task_of, table_read};
+ghost use Rattle.readers.specs.Inputs.{tick_of, ticks_read, tick_at};
+ghost use Rattle.readers.specs.Places.{word_at, number_at, cell_at, row_from};
 ghost use Rattle.readers.specs.Code.Digits.{grown_to, Narrow};
 
-use table::{Cores, Partitions, Platform, Refusal, Table, Task};
+use table::{Cores, Partitions, Platform, Reason, Refusal, Table, Task};
 
-// A number with a further digit, where that may follow.
+// Where the first byte is that may not stand there.
 #[derive(Clone, Copy)]
-struct Grown {
-    may: bool,
-    value: u64,
-}
+struct Offset(usize);
 
-// The number at a place: `next` is past it, or is the place where none begins.
+// What a piece of a text says, a number or a row of them, and the place behind it.
 #[derive(Clone, Copy)]
-struct Number {
-    value: u64,
+struct Piece<T> {
+    value: T,
     next: usize,
-}
-
-// A number with what ends it; where it is not whole, `next` is the first byte that may not stand there.
-#[derive(Clone, Copy)]
-struct Cell {
-    value: u64,
-    next: usize,
-    whole: bool,
-}
-
-// A row's numbers, as many as its form has columns; where it is not whole, `next` is the first byte that may not stand
-// there.
-#[derive(Clone, Copy)]
-struct Row {
-    numbers: [u64; Row::MOST],
-    next: usize,
-    whole: bool,
-}
-
-impl Row {
-    // No form has more columns.
-    const MOST: usize = 4;
 }
 
 // The largest number of a column of 32 bits.
 const LARGEST: u64 = 4_294_967_295;
 
-// The place up to which the text agrees with the word.
-fn agree_at(s: &[u8], at: usize, word: &[u8]) -> usize
-    requires { at ≤ length s.now }
-    ensures { result ≡ agree_at s.now at word.now }
-{
-    let mut next = at;
-    let mut i: usize = 0;
-    while i < word.len() {
-        if s.len() <= next {
-            return next;
-        }
-        if s[next] != word[i] {
-            return next;
-        }
-        next += 1;
-        i += 1;
+// A text that is not of its form.
+impl From<Offset> for Refusal {
+    ghost from_gives = { λ offset r. r ≡ bad_text offset.0 };
+
+    fn from(offset: Offset) -> Refusal {
+        Refusal::new(Reason::Text, offset.0)
     }
-    next
 }
 
-fn with_digit(most: u64, v: u64, c: u8) -> Grown
+// The place behind the word that stands at a place.
+fn word_at(s: &[u8], at: usize, word: &[u8]) -> Result<usize, Offset>
+    requires { at ≤ length s.now }
+    ensures { result ≡ word_at s.now at word.now }
+{
+    for i in 0..word.len() {
+        if s.len() <= at + i || s[at + i] != word[i] {
+            return Err(Offset(at + i));
+        }
+    }
+    Ok(at + word.len())
+}
+
+// A number with a further digit, where that may follow.
+fn with_digit(most: u64, v: u64, c: u8) -> Option<u64>
     ensures { result ≡ grown_to most v c }
 {
-    if c < 48 {
-        return Grown::not();
+    if !c.is_ascii_digit() {
+        return None;
     }
-    if 57 < c {
-        return Grown::not();
-    }
-    let d = (c - 48) as u64;
+    let d = u64::from(c - b'0');
     if !has_room(most, v, d) {
-        return Grown::not();
+        return None;
     }
-    Grown {
-        may: true,
-        value: 10 * v + d,
-    }
+    Some(10 * v + d)
 }
 
 // Whether 10 v + d is at most the largest, asked so that nothing passes 64 bits. Most digits are told by the quotient,
@@ -104,226 +76,127 @@ fn has_room(most: u64, v: u64, d: u64) -> bool
     d <= most - 10 * v
 }
 
-impl Grown {
-    fn not() -> Grown
-        ensures { result ≡ record { may = false; value = 0 } }
-    {
-        Grown {
-            may: false,
-            value: 0,
-        }
-    }
-}
-
-// The number of a column at a place.
-fn number_at(s: &[u8], at: usize, most: u64) -> Number
+// The number of a column at a place, where one begins.
+fn number_at(s: &[u8], at: usize, most: u64) -> Option<Piece<u64>>
     requires { at ≤ length s.now }
     ensures { result ≡ number_at most s.now at }
 {
     if s.len() <= at {
-        return Number { value: 0, next: at };
+        return None;
     }
-    let first = with_digit(most, 0, s[at]);
-    if !first.may {
-        return Number { value: 0, next: at };
+    let mut value = with_digit(most, 0, s[at])?;
+    // No digit follows a leading 0.
+    if value == 0 {
+        return Some(Piece {
+            value,
+            next: at + 1,
+        });
     }
-    let mut v = first.value;
-    let mut next = at + 1;
-    while next < s.len() {
-        if v == 0 {
-            return Number {
-                value: v,
-                next: next,
-            };
-        }
-        let more = with_digit(most, v, s[next]);
-        if !more.may {
-            return Number {
-                value: v,
-                next: next,
-            };
-        }
-        v = more.value;
-        next += 1;
+    for next in at + 1..s.len() {
+        let Some(more) = with_digit(most, value, s[next]) else {
+            return Some(Piece { value, next });
+        };
+        value = more;
     }
-    Number {
-        value: v,
-        next: next,
-    }
+    Some(Piece {
+        value,
+        next: s.len(),
+    })
 }
 
 // The number of a column at a place, and what ends it where so many more follow in its row.
-fn cell_at(s: &[u8], at: usize, most: u64, left: usize) -> Cell
+fn cell_at(s: &[u8], at: usize, most: u64, left: usize) -> Result<Piece<u64>, Offset>
     requires { at ≤ length s.now }
     ensures { result ≡ cell_at most s.now at (ending left) }
 {
-    let x = number_at(s, at, most);
-    let next = x.next;
-    if next == at {
-        return Cell {
-            value: 0,
-            next: at,
-            whole: false,
-        };
-    }
-    if left == 0 {
-        let end = agree_at(s, next, b"\r\n");
-        return Cell {
-            value: x.value,
-            next: end,
-            whole: end == next + 2,
-        };
-    }
-    let end = agree_at(s, next, b",");
-    Cell {
+    let Some(x) = number_at(s, at, most) else {
+        return Err(Offset(at));
+    };
+    let next = if left == 0 {
+        word_at(s, x.next, b"\r\n")?
+    } else {
+        word_at(s, x.next, b",")?
+    };
+    Ok(Piece {
         value: x.value,
-        next: end,
-        whole: end == next + 1,
-    }
+        next,
+    })
 }
 
 // The row at a place, of columns whose largest numbers these are.
-fn row_at(s: &[u8], at: usize, columns: &[u64]) -> Row
-    requires { (at ≤ length s.now) × (length columns.now ≤ most_columns) }
+fn row_at<const N: usize>(
+    s: &[u8],
+    at: usize,
+    columns: &[u64; N],
+) -> Result<Piece<[u64; N]>, Offset>
+    requires { at ≤ length s.now }
     ensures { result ≡ row_from s.now [] columns.now at }
 {
-    let mut numbers = [0u64; Row::MOST];
+    let mut numbers = [0; N];
     let mut next = at;
-    let mut j: usize = 0;
-    while j < columns.len() {
-        let c = cell_at(s, next, columns[j], columns.len() - j - 1);
-        if !c.whole {
-            return Row {
-                numbers: [0u64; Row::MOST],
-                next: c.next,
-                whole: false,
-            };
-        }
-        numbers[j] = c.value;
-        next = c.next;
-        j += 1;
+    for j in 0..N {
+        let x = cell_at(s, next, columns[j], N - j - 1)?;
+        numbers[j] = x.value;
+        next = x.next;
     }
-    Row {
-        numbers: numbers,
-        next: next,
-        whole: true,
-    }
+    Ok(Piece {
+        value: numbers,
+        next,
+    })
 }
 
-#[derive(Clone, Copy)]
-pub struct PlatformRead {
-    pub refused: Refusal,
-    pub platform: Platform,
-}
-
-impl PlatformRead {
-    pub fn bad(offset: usize) -> PlatformRead
-        ensures { result ≡ platform_read (refused offset) }
-    {
-        PlatformRead {
-            refused: Refusal {
-                number: 15,
-                row: offset,
-            },
-            platform: Platform {
-                cores: Cores(0),
-                partitions: Partitions(0),
-            },
-        }
+fn platform_of(numbers: [u64; 2]) -> Platform
+    requires { Narrow numbers }
+    ensures { result ≡ platform_of numbers }
+{
+    let [cores, partitions] = numbers;
+    Platform {
+        cores: Cores(cores as u32),
+        partitions: Partitions(partitions as u32),
     }
 }
 
 // The platform of a platform text, or refusal 15.
-pub fn read_platform(s: &[u8]) -> PlatformRead
+pub fn read_platform(s: &[u8]) -> Result<Platform, Refusal>
     ensures { result ≡ platform_read (read platform_form s.now) }
 {
-    let at = agree_at(s, 0, b"cores,partitions\r\n");
-    if at < 18 {
-        return PlatformRead::bad(at);
+    let at = word_at(s, 0, b"cores,partitions\r\n")?;
+    let row = row_at(s, at, &[LARGEST; 2])?;
+    if row.next < s.len() {
+        return Err(Refusal::from(Offset(row.next)));
     }
-    let columns = [LARGEST; 2];
-    let r = row_at(s, at, &columns);
-    if !r.whole {
-        return PlatformRead::bad(r.next);
-    }
-    if r.next < s.len() {
-        return PlatformRead::bad(r.next);
-    }
-    PlatformRead {
-        refused: Refusal { number: 0, row: 0 },
-        platform: Platform {
-            cores: Cores(r.numbers[0] as u32),
-            partitions: Partitions(r.numbers[1] as u32),
-        },
-    }
+    Ok(platform_of(row.value))
 }
 
-#[derive(Clone, Copy)]
-pub struct TableRead {
-    pub refused: Refusal,
-    pub table: Table,
-}
-
-impl TableRead {
-    pub fn bad(offset: usize) -> TableRead
-        ensures { result ≡ table_read no_platform (refused offset) }
-    {
-        TableRead {
-            refused: Refusal {
-                number: 15,
-                row: offset,
-            },
-            table: Table::empty(Platform {
-                cores: Cores(0),
-                partitions: Partitions(0),
-            }),
-        }
-    }
-}
-
-fn task_of(numbers: [u64; Row::MOST]) -> Task
+fn task_of(numbers: [u64; 4]) -> Task
     requires { Narrow numbers }
     ensures { result ≡ task_of numbers }
 {
+    let [d, t, c, a] = numbers;
     Task {
-        d: numbers[0] as u32,
-        t: numbers[1] as u32,
-        c: numbers[2] as u32,
-        a: Partitions(numbers[3] as u32),
+        d: d as u32,
+        t: t as u32,
+        c: c as u32,
+        a: Partitions(a as u32),
     }
 }
 
 // The table of a platform and a tasks text, or refusal 15: every row counted, the first 32 kept.
-pub fn read_tasks(s: &[u8], platform: Platform) -> TableRead
+pub fn read_tasks(s: &[u8], platform: Platform) -> Result<Table, Refusal>
     ensures { result ≡ table_read platform (read tasks_form s.now) }
 {
-    let mut at = agree_at(s, 0, b"D,T,C,A\r\n");
-    if at < 9 {
-        return TableRead::bad(at);
-    }
-    let mut rows = [Task::none(); Table::MOST];
-    let columns = [LARGEST; Row::MOST];
-    let mut n: usize = 0;
+    let mut at = word_at(s, 0, b"D,T,C,A\r\n")?;
+    let mut table = Table::empty(platform);
+    // Each step is a row's bytes.
     while at < s.len() {
-        let r = row_at(s, at, &columns);
-        if !r.whole {
-            return TableRead::bad(r.next);
+        let row = row_at(s, at, &[LARGEST; 4])?;
+        if table.n < Table::MOST {
+            table.rows[table.n] = task_of(row.value);
         }
-        let numbers = r.numbers;
-        if n < Table::MOST {
-            rows[n] = task_of(numbers);
-        }
-        n += 1;
-        at = r.next;
+        table.n += 1;
+        at = row.next;
     }
-    TableRead {
-        refused: Refusal { number: 0, row: 0 },
-        table: Table {
-            platform: platform,
-            n: n,
-            rows: rows,
-        },
-    }
+    Ok(table)
 }
 
 // One row of a ticks text: the sets of tasks released and finished.
@@ -334,29 +207,9 @@ pub struct Tick {
 }
 
 #[derive(Clone, Copy)]
-pub struct TicksRead {
-    pub refused: Refusal,
-    pub count: usize,
-}
-
-#[derive(Clone, Copy)]
 pub struct TickRead {
     pub tick: Tick,
     pub next: usize,
-}
-
-impl TicksRead {
-    pub fn bad(offset: usize) -> TicksRead
-        ensures { result ≡ ticks_read (refused offset) }
-    {
-        TicksRead {
-            refused: Refusal {
-                number: 15,
-                row: offset,
-            },
-            count: 0,
-        }
-    }
 }
 
 impl Tick {
@@ -364,29 +217,29 @@ impl Tick {
     pub const FIRST: usize = 19;
 }
 
+fn tick_of(numbers: [u64; 2]) -> Tick
+    requires { Narrow numbers }
+    ensures { result ≡ tick_of numbers }
+{
+    let [released, finished] = numbers;
+    Tick {
+        released: released as u32,
+        finished: finished as u32,
+    }
+}
+
 // How many ticks a ticks text has, or refusal 15.
-pub fn read_ticks(s: &[u8]) -> TicksRead
+pub fn read_ticks(s: &[u8]) -> Result<usize, Refusal>
     ensures { result ≡ ticks_read (read ticks_form s.now) }
 {
-    let mut at = agree_at(s, 0, b"released,finished\r\n");
-    if at < Tick::FIRST {
-        return TicksRead::bad(at);
-    }
-    let columns = [LARGEST; 2];
+    let mut at = word_at(s, 0, b"released,finished\r\n")?;
     let mut n: usize = 0;
+    // Each step is a row's bytes.
     while at < s.len() {
-        let r = row_at(s, at, &columns);
-        let next = r.next;
-        if !r.whole {
-            return TicksRead::bad(next);
-        }
+        at = row_at(s, at, &[LARGEST; 2])?.next;
         n += 1;
-        at = next;
     }
-    TicksRead {
-        refused: Refusal { number: 0, row: 0 },
-        count: n,
-    }
+    Ok(n)
 }
 
 // The tick at a place, and the place behind it; of a text that read_ticks accepts, from Tick::FIRST on.
@@ -395,20 +248,18 @@ pub fn tick_at(s: &[u8], at: usize) -> TickRead
 {
     if s.len() < at {
         return TickRead {
-            tick: Tick {
-                released: 0,
-                finished: 0,
-            },
+            tick: tick_of([0, 0]),
             next: at,
         };
     }
-    let columns = [LARGEST; 2];
-    let r = row_at(s, at, &columns);
-    TickRead {
-        tick: Tick {
-            released: r.numbers[0] as u32,
-            finished: r.numbers[1] as u32,
+    match row_at(s, at, &[LARGEST; 2]) {
+        Ok(row) => TickRead {
+            tick: tick_of(row.value),
+            next: row.next,
         },
-        next: r.next,
+        Err(Offset(next)) => TickRead {
+            tick: tick_of([0, 0]),
+            next,
+        },
     }
 }

@@ -1,53 +1,41 @@
-use Prim.Native.Nat.{◌≤◌}
-use mathlib.Core.Path.{◌≡◌, sym}
-use native.Mathlib.Omega.{arith}
-use lib.ListN.{length}
-use Rattle.readers.specs.Places.{number_at}
+use Rattle.std.proofs.Common.{Err}
+use mathlib.Core.Path.{◌≡◌, sym, ap, ◌∙◌}
+use Rattle.std.proofs.lemmas.Result.{err_from_is_err_and}
 use Rattle.forms.proofs.Lines.{ending-more}
-use Rattle.readers.proofs.Rows.{number-inside, cell-none, cell-some}
+use Rattle.readers.proofs.Rows.{number-inside, cell-none, cell-cut, cell-full}
 use Rattle.readers.proofs.cell_at.Goals as goal
 
-pub returns-then-next-at : goal.returns-then-next-at
-returns-then-next-at c =
-    let args = c.args in
-    let e : (number_at args.most args.s.now args.at).next ≡ args.at = cc in
-    sym (cell-none args.most args.s.now args.at _ e)
+pub returns-in_default : goal.returns-in_default
+returns-in_default c = sym (cell-none c.args.most c.args.s.now c.args.at _ (sym c.in_default.ensures))
 
-pub agree_at-end-requires : goal.agree_at-end-requires
-agree_at-end-requires c =
-    let args = c.args in
-    rw c.number_at-x.ensures
-    (number-inside args.most args.s.now args.at (omega arith))
+pub word_at-requires : goal.word_at-requires
+word_at-requires c = rw (← c.in-Some.ensures) at (number-inside c.args.s.now c.args.at c.requires c.args.most)
 
-pub overflow_add-result : goal.overflow_add-result
-overflow_add-result c =
-    let args = c.args in
-    let x = c.number_at-x in
-    let h : x.result.next ≤ length args.s.now =
-    rw x.ensures (number-inside args.most args.s.now args.at (omega arith)) in
-    omega arith
-
-pub returns-then-left-eq0 : goal.returns-then-left-eq0
-returns-then-left-eq0 c =
+pub returns-in_err-next : goal.returns-in_err-next
+returns-in_err-next c =
+    let given = err_from_is_err_and c.from_residual.result c.from_residual.ensures.1 in
     let none : c.args.left ≡ 0 = c.if-left-eq0.true in
     rw none
-    (cell-some _ _ _ _ _ c.number_at-x.ensures c.if-next-at.false _ c.agree_at-end.ensures)
+    (given.1 ∙ ap Err given.2
+    ∙ cell-cut c.args.most c.args.s.now c.args.at _ _ c.in-Some.ensures _ c.in_err-next.ensures)
 
-pub agree_at-end-requires-2 : goal.agree_at-end-requires-2
-agree_at-end-requires-2 c =
-    let args = c.args in
-    rw c.number_at-x.ensures
-    (number-inside args.most args.s.now args.at (omega arith))
+pub word_at-requires-else-left-eq0 : goal.word_at-requires-else-left-eq0
+word_at-requires-else-left-eq0 c =
+    rw (← c.in-Some.ensures) at (number-inside c.args.s.now c.args.at c.requires c.args.most)
 
-pub overflow_add-result-2 : goal.overflow_add-result-2
-overflow_add-result-2 c =
-    let args = c.args in
-    let x = c.number_at-x in
-    let h : x.result.next ≤ length args.s.now =
-    rw x.ensures (number-inside args.most args.s.now args.at (omega arith)) in
-    omega arith
-
-pub returns : goal.returns
-returns c =
+pub returns-in_err-next-2 : goal.returns-in_err-next-2
+returns-in_err-next-2 c =
+    let given = err_from_is_err_and c.from_residual-in_err-next-2.result c.from_residual-in_err-next-2.ensures.1 in
     rw (ending-more c.args.left c.if-left-eq0.false)
-    (cell-some _ _ _ _ _ c.number_at-x.ensures c.if-next-at.false _ c.agree_at-end-2.ensures)
+    (given.1 ∙ ap Err given.2
+    ∙ cell-cut c.args.most c.args.s.now c.args.at _ _ c.in-Some.ensures _ c.in_err-next-2.ensures)
+
+pub returns-in_ok-next : goal.returns-in_ok-next
+returns-in_ok-next c =
+    let none : c.args.left ≡ 0 = c.if-left-eq0.true in
+    rw none (cell-full c.args.most c.args.s.now c.args.at _ _ c.in-Some.ensures _ c.in_ok-next.ensures)
+
+pub returns-in_ok-next-2 : goal.returns-in_ok-next-2
+returns-in_ok-next-2 c =
+    rw (ending-more c.args.left c.if-left-eq0.false)
+    (cell-full c.args.most c.args.s.now c.args.at _ _ c.in-Some.ensures _ c.in_ok-next-2.ensures)

@@ -1,58 +1,51 @@
+use Rattle.std.proofs.Common.{Err}
 use mathlib.Core.Path.{refl, sym, ap, ◌∙◌}
 use native.Mathlib.Omega.{arith}
-use borrow.Author.Tests.{not-true, not-false}
+use Rattle.std.proofs.lemmas.Result.{err_from_is_err_and}
 use Rattle.forms.specs.Forms.{tasks_form}
 use Rattle.readers.specs.Inputs.{table_read}
 use Rattle.readers.proofs.Rows.{row-narrow}
 use Rattle.readers.proofs.Texts.{head-bad}
 use Rattle.readers.proofs.Tasks.{here-start, here_end, here-bad, here-far, here-kept, here-full}
+use Rattle.readers.proofs.read_tasks.Goals.{then-table-lt-MOST, else-table-lt-MOST}
 use Rattle.readers.proofs.read_tasks.Goals as goal
-use Rattle.readers.proofs.read_tasks.Goals.{then-n-lt-MOST, else-n-lt-MOST}
 
-pub returns-then-at-lt9 : goal.returns-then-at-lt9
-returns-then-at-lt9 c =
-    let args = c.args in
-    c.bad.ensures ∙ ap (table_read args.platform)
-    (sym (head-bad tasks_form _ _ c.agree_at-at.ensures c.if-at-lt9.true))
+pub returns-in_err-at : goal.returns-in_err-at
+returns-in_err-at c =
+    let given = err_from_is_err_and c.from_residual.result c.from_residual.ensures.1 in
+    given.1 ∙ ap Err given.2
+    ∙ sym (ap (table_read c.args.platform) (head-bad tasks_form c.args.s.now _ c.in_err-at.ensures))
 
 pub loop-at-init : goal.loop-at-init
-loop-at-init c =
-    let args = c.args in
-    rw c.none-rows.ensures (here-start args.s.now _ c.agree_at-at.ensures (omega arith))
+loop-at-init c = rw c.empty-table.ensures (refl, here-start c.args.s.now _ c.in_ok-at.ensures)
 
-pub row_at-r-requires : goal.row_at-r-requires
-row_at-r-requires c = (c.loop-at.invariant.line.inside, omega arith)
-
-pub returns-then-not-r : goal.returns-then-not-r
-returns-then-not-r c =
-    let args = c.args in
-    c.bad-then-not-r.ensures
-    ∙ ap (table_read args.platform)
-    (sym (here-bad _ _ _ _ c.loop-at.invariant c.loop-at-test.true _ c.row_at-r.ensures
-    (not-true _ c.if-not-r.true)))
+pub returns-in_err-row : goal.returns-in_err-row
+returns-in_err-row c =
+    let given = err_from_is_err_and c.from_residual-in_err-row.result c.from_residual-in_err-row.ensures.1 in
+    given.1 ∙ ap Err given.2
+    ∙ sym (ap (table_read c.args.platform) (here-bad _ _ _ _ c.loop-at.invariant.1 c.loop-at-test.true _
+    c.in_err-row.ensures))
 
 pub task_of-requires : goal.task_of-requires
-task_of-requires c =
-    row-narrow tasks_form 4 refl _ _ _ c.row_at-r.ensures
+task_of-requires c = row-narrow c.args.s.now 4 c.loop-at.at _ c.in_ok-row.ensures
 
 pub loop-at-smaller : goal.loop-at-smaller
 loop-at-smaller c =
-    let far = here-far _ _ _ _ c.loop-at.invariant c.loop-at-test.true _ c.row_at-r.ensures
-    (not-false _ c.if-not-r.false) in
+    let far = here-far _ _ _ _ c.loop-at.invariant.1 c.loop-at-test.true _ c.in_ok-row.ensures in
     omega arith
 
 pub loop-at-preserved : goal.loop-at-preserved
 loop-at-preserved c =
+    let here = c.loop-at.invariant.1 in
     let test = c.loop-at-test.true in
-    let good = not-false _ c.if-not-r.false in
-    elim c.if-n-lt-MOST.branch [
-      | then-n-lt-MOST w ↦ rw w.rows-is (here-kept _ _ _ _ c.loop-at.invariant test _ c.row_at-r.ensures good
-          w.if-n-lt-MOST.true _ w.task_of.ensures)
-      | else-n-lt-MOST w ↦ rw w.rows-is (here-full _ _ _ _ c.loop-at.invariant test _ c.row_at-r.ensures good
-          w.if-n-lt-MOST.false)
+    elim c.if-table-lt-MOST.branch [
+      | then-table-lt-MOST w ↦ rw (w.table-is, w.task_of.ensures)
+          (c.loop-at.invariant.0, here-kept _ _ _ _ here test _ c.in_ok-row.ensures w.if-table-lt-MOST.true)
+      | else-table-lt-MOST w ↦ rw w.table-is
+          (c.loop-at.invariant.0, here-full _ _ _ _ here test _ c.in_ok-row.ensures w.if-table-lt-MOST.false)
     ]
 
 pub returns : goal.returns
 returns c =
-    let args = c.args in
-    sym (here_end _ _ _ _ c.loop-at.invariant args.platform c.loop-at-test.false)
+    rw (← c.loop-at.invariant.0)
+    (sym (here_end _ _ _ _ c.loop-at.invariant.1 c.loop-at.table.platform c.loop-at-test.false))

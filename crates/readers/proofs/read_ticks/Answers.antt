@@ -1,53 +1,42 @@
-use borrow.Author.Rules.{rules}
+use Rattle.std.proofs.Common.{Err}
 use mathlib.Core.Path.{refl, sym, ap, ◌∙◌}
 use native.Mathlib.Omega.{arith}
-use borrow.Author.Tests.{not-true, not-false}
+use Rattle.std.proofs.lemmas.Result.{err_from_is_err_and}
 use Rattle.forms.specs.Forms.{ticks_form}
 use Rattle.readers.specs.Inputs.{ticks_read}
 use Rattle.readers.proofs.Texts.{head-bad, line-start, line-end, line-bad, line_row, line-next}
 use Rattle.readers.proofs.read_ticks.Goals as goal
 
-pub returns-then-at-lt-FIRST : goal.returns-then-at-lt-FIRST
-returns-then-at-lt-FIRST c = c.bad.ensures
-    ∙ sym (ap ticks_read (head-bad ticks_form _ _ c.agree_at-at.ensures c.if-at-lt-FIRST.true))
+pub returns-in_err-at : goal.returns-in_err-at
+returns-in_err-at c =
+    let given = err_from_is_err_and c.from_residual.result c.from_residual.ensures.1 in
+    given.1 ∙ ap Err given.2 ∙ sym (ap ticks_read (head-bad ticks_form c.args.s.now _ c.in_err-at.ensures))
 
 pub loop-at-init : goal.loop-at-init
-loop-at-init c =
-    let args = c.args in
-    record { rows = _; line = line-start ticks_form refl args.s.now _ c.agree_at-at.ensures c.if-at-lt-FIRST.false }
+loop-at-init c = record { rows = _; line = line-start ticks_form refl c.args.s.now _ c.in_ok-at.ensures }
 
-pub row_at-r-requires : goal.row_at-r-requires
-row_at-r-requires c = (c.loop-at.invariant.line.inside, omega arith)
-
-pub returns-then-not-r : goal.returns-then-not-r
-returns-then-not-r c =
-    c.bad-then-not-r.ensures
+pub returns-in_err-at-2 : goal.returns-in_err-at-2
+returns-in_err-at-2 c =
+    let given = err_from_is_err_and c.from_residual-in_err-at-2.result c.from_residual-in_err-at-2.ensures.1 in
+    given.1 ∙ ap Err given.2
     ∙ sym (ap ticks_read (line-bad ticks_form refl _ _ _ _ c.loop-at.invariant.line c.loop-at-test.true _
-    c.row_at-r.ensures (not-true _ c.if-not-r.true)))
-
-pub overflow_add-n : goal.overflow_add-n
-overflow_add-n c =
-    let line = c.loop-at.invariant.line in
-    let few = line.few in
-    let inside = line.inside in
-    search rules
+    c.in_err-at-2.ensures))
 
 pub loop-at-smaller : goal.loop-at-smaller
 loop-at-smaller c =
-    let on = line_row ticks_form refl _ _ _ _ c.loop-at.invariant.line c.loop-at-test.true _
-    c.row_at-r.ensures (not-false _ c.if-not-r.false) in
-    let far = on.far in
+    let row =
+    line_row ticks_form refl _ _ _ _ c.loop-at.invariant.line c.loop-at-test.true _ c.in_ok-at-2.ensures in
+    let far = row.far in
     omega arith
 
 pub loop-at-preserved : goal.loop-at-preserved
 loop-at-preserved c =
     record {
       rows = _;
-      line = line-next ticks_form refl _ _ _ _ c.loop-at.invariant.line c.loop-at-test.true _
-          c.row_at-r.ensures (not-false _ c.if-not-r.false);
+      line = line-next ticks_form refl _ _ _ _ c.loop-at.invariant.line c.loop-at-test.true _ c.in_ok-at-2.ensures;
     }
 
 pub returns : goal.returns
 returns c =
     let line = c.loop-at.invariant.line in
-    sym (ap ticks_read (line-end ticks_form refl _ _ _ _ line c.loop-at-test.false) ∙ rw line.count)
+    sym (ap ticks_read (line-end ticks_form refl _ _ _ _ line c.loop-at-test.false) ∙ rw line.count refl)

@@ -1,5 +1,4 @@
-use Prim.Native.Nat.{◌-◌}
-use lib.ListN.{length}
+use Rattle.std.proofs.Common.{◌-◌, length}
 use Rattle.readers.proofs.Ticks.{Counted}
 use Rattle.readers.proofs.read_ticks.Given as goal
 

@@ -1,42 +1,46 @@
--- The loop's invariant: the row goes on from the numbers that have come.
-use borrow.Author.Rules.{rules}
-use mathlib.Core.Path.{refl, sym, ◌∙◌}
+use Rattle.std.proofs.Common.{Err}
+use Prim.Native.Nat.{◌-◌}
+use mathlib.Core.Path.{◌≡◌, refl, sym, ap, ◌∙◌}
 use native.Mathlib.Omega.{arith}
-use borrow.Author.Tests.{not-true, not-false}
-use Rattle.maths.specs.Padded.{padded}
-use Rattle.maths.proofs.Padded.{filled, filled-take}
-use Rattle.readers.specs.Places.{most_columns}
+use native.Mathlib.Numerals.{add-one}
+use borrow.Author.Rules.{rules}
+use lib.ListN.{length, get_or, length-set}
+use lib.Seq.{take-suc-set}
+use Rattle.std.proofs.lemmas.List.{take_all}
+use Rattle.std.proofs.lemmas.Result.{err_from_is_err_and}
+use Rattle.forms.specs.Forms.{ending}
+use Rattle.maths.proofs.Lists.{len_mapped}
 use Rattle.readers.proofs.Rows.{cell-inside, row_more, row-stop, row-end}
 use Rattle.readers.proofs.row_at.Goals as goal
 
-pub loop-j-init : goal.loop-j-init
-unfolding padded
-loop-j-init c = (omega arith, search rules, refl, refl)
-
-pub returns-then-not-c : goal.returns-then-not-c
-unfolding padded
-returns-then-not-c c =
+pub returns-in_err-x : goal.returns-in_err-x
+returns-in_err-x g c =
+    let loop = c.loop-j in
     let columns = c.args.columns.now in
-    sym (c.loop-j.invariant.3 ∙ row-stop c.args.s.now _ columns c.loop-j.j c.loop-j.next (omega arith) _
-    c.cell_at-c.ensures (not-true _ c.if-not-c.true))
+    let wide : length columns ≡ g.row.N = search (len_mapped, rules) in
+    let given = err_from_is_err_and c.from_residual.result c.from_residual.ensures.1 in
+    given.1 ∙ ap Err given.2
+    ∙ sym (loop.invariant.2 ∙ row-stop c.args.s.now _ columns loop.j loop.next (omega arith) _
+    (rw wide c.in_err-x.ensures))
 
 pub loop-j-preserved : goal.loop-j-preserved
-loop-j-preserved c =
+loop-j-preserved g c =
+    let s = c.args.s.now in
+    let loop = c.loop-j in
     let columns = c.args.columns.now in
-    let x = c.cell_at-c in
-    let fill =
-    filled-take 0 most_columns c.loop-j.numbers c.loop-j.j x.result.value c.loop-j.invariant.2 (omega arith) in (
-      search rules,
-      rw x.ensures (cell-inside _ c.args.s.now c.loop-j.next _ c.loop-j.invariant.1),
-      filled 0 most_columns c.loop-j.numbers c.loop-j.j x.result.value c.loop-j.invariant.2 (omega arith),
-      c.loop-j.invariant.3
-          ∙ row_more c.args.s.now _ columns c.loop-j.j c.loop-j.next (omega arith) _ x.ensures
-          (not-false _ c.if-not-c.false)
-          ∙ rw fill,
+    let x = c.in_ok-x.x in
+    let wide : length columns ≡ g.row.N = search (len_mapped, rules) in (
+      rw (← c.in_ok-x.ensures) at
+          (cell-inside s (get_or columns loop.j 0) loop.next (ending (g.row.N - loop.j - 1)) loop.invariant.0),
+      length-set loop.numbers loop.j x.value ∙ loop.invariant.1,
+      rw (add-one, take-suc-set loop.numbers loop.j x.value (omega arith))
+          (loop.invariant.2 ∙ row_more s _ columns loop.j loop.next (omega arith) _ (rw wide c.in_ok-x.ensures)),
     )
 
 pub returns : goal.returns
-returns c =
-    let args = c.args in
-    sym (c.loop-j.invariant.3
-    ∙ row-end args.s.now _ args.columns.now c.loop-j.j c.loop-j.next (omega arith) ∙ rw c.loop-j.invariant.2)
+returns g c =
+    let loop = c.loop-j in
+    let columns = c.args.columns.now in
+    let wide : length columns ≡ g.row.N = search (len_mapped, rules) in
+    sym (loop.invariant.2 ∙ row-end c.args.s.now _ columns loop.j loop.next (omega arith)
+    ∙ rw (take_all loop.j loop.numbers (omega arith)) refl)

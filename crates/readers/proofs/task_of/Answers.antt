@@ -1,15 +1,14 @@
 use borrow.Author.Rules.{rules}
-use lib.Dec.{lit<}
 use Rattle.readers.proofs.task_of.Goals as goal
 
 pub overflow_cast-result : goal.overflow_cast-result
-overflow_cast-result c = let h = c.requires 0 (lit< tt) in search rules
+overflow_cast-result c = let h = c.requires 0 in search rules
 
 pub overflow_cast-result-2 : goal.overflow_cast-result-2
-overflow_cast-result-2 c = let h = c.requires 1 (lit< tt) in search rules
+overflow_cast-result-2 c = let h = c.requires 1 in search rules
 
 pub overflow_cast-result-3 : goal.overflow_cast-result-3
-overflow_cast-result-3 c = let h = c.requires 2 (lit< tt) in search rules
+overflow_cast-result-3 c = let h = c.requires 2 in search rules
 
 pub overflow_cast-result-4 : goal.overflow_cast-result-4
-overflow_cast-result-4 c = let h = c.requires 3 (lit< tt) in search rules
+overflow_cast-result-4 c = let h = c.requires 3 in search rules

@@ -1,4 +1,0 @@
-use Rattle.readers.proofs.TableRead.bad.Goals as goal
-
-pub returns : goal.returns
-returns c = rw c.empty.ensures

@@ -187,7 +187,7 @@ pub fn read_tasks(s: &[u8], platform: Platform) -> Result<Table, Refusal>
 {
     let mut at = word_at(s, 0, b"D,T,C,A\r\n")?;
     let mut table = Table::empty(platform);
-    // Each step is a row's bytes.
+    // No `for`: a step is as long as the row that it reads.
     while at < s.len() {
         let row = row_at(s, at, &[LARGEST; 4])?;
         if table.n < Table::MOST {
@@ -234,7 +234,7 @@ pub fn read_ticks(s: &[u8]) -> Result<usize, Refusal>
 {
     let mut at = word_at(s, 0, b"released,finished\r\n")?;
     let mut n: usize = 0;
-    // Each step is a row's bytes.
+    // No `for`: a step is as long as the row that it reads.
     while at < s.len() {
         at = row_at(s, at, &[LARGEST; 2])?.next;
         n += 1;

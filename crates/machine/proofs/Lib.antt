@@ -6,4 +6,5 @@ pub mod StateFresh
 pub mod Accepted
 pub mod Taken
 pub mod Outcomes
+pub mod Copies
 pub mod Determined

@@ -51,10 +51,9 @@ impl Job {
 fn trimmed_rows(t: &Table) -> [Task; Table::MOST]
     ensures { result ≡ (trimmed t.now).rows }
 {
+    let kept = Table::entries(t.n);
     let mut rows = [Task::none(); Table::MOST];
-    for i in 0..Table::entries(t.n) {
-        rows[i] = t.rows[i];
-    }
+    rows[..kept].copy_from_slice(&t.rows[..kept]);
     rows
 }
 

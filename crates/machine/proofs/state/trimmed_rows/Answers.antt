@@ -1,23 +1,14 @@
-use Prim.Native.Nat.{min}
-use mathlib.Core.Path.{◌≡◌, ◌∙◌}
+use mathlib.Core.Path.{◌≡◌, sym, ap, ◌∙◌}
 use native.Mathlib.Omega.{arith}
-use Rattle.maths.specs.Tasks.{tabulate}
-use Rattle.maths.proofs.Arrays.{up_none, up_more, up-most}
-use Rattle.table.specs.Limits.{most_tasks}
-use Rattle.table.specs.Tasks.{τ, no_task}
-use borrow.Author.Rules.{rules}
+use lib.ListN.{length, take, length-take}
+use Rattle.machine.proofs.Copies.{kept_from}
 use Rattle.machine.proofs.state.trimmed_rows.Goals as goal
-
-pub loop-i-init : goal.loop-i-init
-unfolding tabulate
-loop-i-init c = rw c.none-rows.ensures (up_none most_tasks (τ c.args.t.now) (λ k. no_task))
-
-pub loop-i-preserved : goal.loop-i-preserved
-loop-i-preserved c =
-    rw c.loop-i.invariant (up_more most_tasks (τ c.args.t.now) (λ k. no_task) c.loop-i.i (search rules))
 
 pub returns : goal.returns
 returns c =
     let t = c.args.t.now in
-    let at-end : c.loop-i.i ≡ min t.n most_tasks = omega arith in
-    c.loop-i.invariant ∙ (rw at-end (up-most most_tasks (τ t) (λ k. no_task) t.n))
+    let kept = c.entries-kept in
+    let copied = c.copy_from_slice.ensures in
+    let size : length (take kept.result t.rows) ≡ kept.result =
+    sym (ap length copied.after) ∙ copied.len ∙ simp length-take (omega (arith, kept.ensures)) in
+    rw (copied.after, c.none-rows.ensures, kept_from t.n t.rows kept.result size kept.ensures)

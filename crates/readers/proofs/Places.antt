@@ -7,12 +7,11 @@ use mathlib.Core.Option.{Option, none, some}
 use native.Mathlib.Numerals.{add-one}
 use native.Mathlib.Omega.{arith}
 use native.Mathlib.Decide.{dec_lt}
-use borrow.Author.Tests.{eq-eqb, ne_eqb, lt-ltb, le-leb, leb-true}
+use borrow.Author.Tests.{eq-eqb, ne_eqb, lt-ltb}
 use lib.Dec.{leb}
 use lib.ListN.{length, drop, get_or, drop_of_length-le}
 use lib.Seq.{drop-cons}
 use Rattle.std.specs.Prelude.{Option as Maybe, Some, None}
-use Rattle.maths.proofs.Tests.{same_truth}
 use Rattle.forms.specs.Reader.{keep, is_digit, grow}
 use Rattle.readers.specs.Places.{agree_from, ends, number_from, number_at}
 use Rattle.readers.specs.Code.Digits.{grown_to}
@@ -82,12 +81,6 @@ module _ (most : ℕ) where
         where
           no : ◌≡◌ {A = Maybe ℕ} (Some w) None → ⊥
           no e = let z : ◌≡◌ {A = ℕ} 0 1 = cc in omega arith
-
-  pub room-left : (v d : ℕ) → 10 * v ≤ most → leb d (most - 10 * v) ≡ leb (10 * v + d) most
-  room-left v d h =
-      same_truth _ _
-      (λ e. let l : d ≤ most - 10 * v = leb-true _ _ e in le-leb (10 * v + d) most (omega arith))
-      (λ e. let l : 10 * v + d ≤ most = leb-true _ _ e in le-leb d (most - 10 * v) (omega arith))
 
   module _ (text : List ℕ) where
     pub number_short : (at : ℕ) → length text ≤ at → number_at most text at ≡ None

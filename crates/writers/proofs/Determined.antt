@@ -3,10 +3,9 @@ use Prim.Native.Nat.{ℕ}
 use mathlib.Core.Path.{◌≡◌}
 use mathlib.Core.List.{List}
 use Rattle.maths.proofs.Determined.{determined, determined-both}
-use Rattle.writers.specs.declared.Room.{Room}
 use Rattle.writers.specs.declared.Written.{Written}
 use Rattle.writers.specs.declared.TextsWritten.{TextsWritten}
-use Rattle.writers.specs.Written.{Wrote, WroteBoth, Added, room_for}
+use Rattle.writers.specs.Written.{Wrote, WroteBoth}
 
 pub wrote_determined : (text buffer : List ℕ) (r s : Written) (a b : List ℕ)
     → Wrote text buffer r a → Wrote text buffer s b → (r ≡ s) × (a ≡ b)
@@ -18,10 +17,3 @@ wrote_both_determined x y first second r s a b c d p q = (
   determined _ r s p.answers q.answers,
   determined-both _ _ a b c d (p.holds₁, p.holds₂) (q.holds₁, q.holds₂),
 )
-
-pub added_determined : (buffer : List ℕ) (at : ℕ) (text : List ℕ) (r s : ℕ) (a b : List ℕ)
-    → Added buffer at text r a → Added buffer at text s b → (r ≡ s) × (a ≡ b)
-added_determined buffer at text r s a b p q = determined-both _ _ r s a b (p.behind, p.holds) (q.behind, q.holds)
-
-pub room-determined : (text : List ℕ) (room : ℕ) (r s : Room) → r ≡ room_for text room → s ≡ room_for text room → r ≡ s
-room-determined text room = determined (room_for text room)

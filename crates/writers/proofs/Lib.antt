@@ -1,12 +1,8 @@
-pub mod Puts
-pub mod Rooms
+pub mod Walks
+pub mod Cells
+pub mod Places
 pub mod Rows
-pub mod Sequences
 pub mod Wholes
-pub mod Tables
-pub mod Signed
-pub mod Margins
-pub mod Ticks
-pub mod Added
 pub mod Listings
 pub mod Determined
+pub mod Lines

@@ -1,4 +1,6 @@
 pub mod Written
+pub mod Sinks
+pub mod Places
+pub mod Cells
 pub mod Signed
 pub mod Outputs
-pub mod Code

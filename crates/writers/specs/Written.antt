@@ -1,10 +1,8 @@
 -- What a writer gives and leaves: the text at the front of the buffer with the bytes past it as they were, or refusal
 -- 16 where the text is longer than the buffer, and then nothing is changed.
-use Rattle.std.specs.Prelude.{ℕ, ◌+◌, ◌-◌, ◌≡◌, Bool, true, false, cond, ◌&&◌, List, ◌++◌, leb, length, drop}
-use Rattle.std.proofs.lemmas.List.Edits.{sets}
+use Rattle.std.specs.Prelude.{ℕ, ◌≡◌, Bool, cond, ◌&&◌, List, ◌++◌, leb, length, drop}
 use Rattle.table.specs.declared.Refusal.{Refusal}
 use Rattle.table.specs.Refused.{no_refusal}
-use Rattle.writers.specs.declared.Room.{Room}
 use Rattle.writers.specs.declared.Written.{Written}
 use Rattle.writers.specs.declared.TextsWritten.{TextsWritten}
 
@@ -36,18 +34,3 @@ pub record WroteBoth (a b first second : List ℕ) (answer : TextsWritten) (afte
       (record { refused = too_short; platform = 0; tasks = 0 })
   pub holds₁ : after₁ ≡ cond (both_fit a b first second) (a ++ drop (length a) first) first
   pub holds₂ : after₂ ≡ cond (both_fit a b first second) (b ++ drop (length b) second) second
-
--- whether a text fits, and how much room it leaves
-unfoldable pub room_for : List ℕ → ℕ → Room
-room_for text room =
-    cond (leb (length text) room)
-    (record { enough = true; left = room - length text })
-    (record { enough = false; left = 0 })
-
--- a text put only if it has room from its place on
-abbrev pub fits_at : List ℕ → ℕ → List ℕ → Bool
-fits_at buffer at text = leb (at + length text) (length buffer)
-
-pub record Added (buffer : List ℕ) (at : ℕ) (text : List ℕ) (next : ℕ) (after : List ℕ) : Type 0 where
-  pub behind : next ≡ cond (fits_at buffer at text) (at + length text) at
-  pub holds : after ≡ cond (fits_at buffer at text) (sets buffer at text) buffer

@@ -42,7 +42,7 @@ agree-most next (b ∷ word) (c ∷ bytes) = go (eqb c b) (agree-most (suc next)
     go true h = omega arith
     go false h = omega arith
 
-pub agree-inside : (text : List ℕ) (at : ℕ) (word : List ℕ) → at ≤ length text → agree_at text at word ≤ length text
+agree-inside : (text : List ℕ) (at : ℕ) (word : List ℕ) → at ≤ length text → agree_at text at word ≤ length text
 agree-inside text at word h = omega (arith, agree-bound at word (drop at text), length-drop at text)
 
 -- a number ends within the text
@@ -86,9 +86,9 @@ number-fits most next v (c ∷ bytes) h =
     go (some v) h none f known = h
     go v h (some w) f known = known w f.fits
 
-module _ (text : List ℕ) (at : ℕ) (inside : at ≤ length text) where
-  pub word-inside : (word : List ℕ) → IfOk (word_at text at word) (λ next. next ≤ length text)
-  word-inside word = go (eqb (agree_at text at word) (at + length word))
+module _ (text : List ℕ) (at : ℕ) where
+  word-inside : (word : List ℕ) → at ≤ length text → IfOk (word_at text at word) (λ next. next ≤ length text)
+  word-inside word inside = go (eqb (agree_at text at word) (at + length word))
     where
       go : (b : Bool)
           → IfOk (cond b (Ok (agree_at text at word)) (bad (agree_at text at word))) (λ next. next ≤ length text)
@@ -104,8 +104,8 @@ module _ (text : List ℕ) (at : ℕ) (inside : at ≤ length text) where
       → bad {A = ℕ} offset ≡ word_at text at word
   word-part word offset e l = rw (e, ne_eqb offset (at + length word) (omega arith)) refl
 
-  pub number-inside : (most : ℕ) → IfSome (number_at most text at) (λ x. x.next ≤ length text)
-  number-inside most = go (number_at most text at) (number-bounded most at none (drop at text))
+  number-inside : (most : ℕ) → at ≤ length text → IfSome (number_at most text at) (λ x. x.next ≤ length text)
+  number-inside most inside = go (number_at most text at) (number-bounded most at none (drop at text))
     where
       go : (o : Maybe (Piece ℕ)) → IfSome o (λ x. x.next ≤ at + length (drop at text))
           → IfSome o (λ x. x.next ≤ length text)
@@ -131,10 +131,10 @@ module _ (most : ℕ) (text : List ℕ) (at : ℕ) (word : List ℕ) where
   cell-full x e next f = sym (cell-some x (sym e) ∙ rw (ended_by, ← f) refl)
 
 module _ (text : List ℕ) where
-  pub cell-inside : (most at : ℕ) (word : List ℕ) → at ≤ length text
+  cell-inside : (most at : ℕ) (word : List ℕ) → at ≤ length text
       → IfOk (cell_at most text at word) (λ x. x.next ≤ length text)
   unfolding cell_at
-  cell-inside most at word h = go (number_at most text at) (number-inside text at h most)
+  cell-inside most at word h = go (number_at most text at) (number-inside text at most h)
     where
       behind : (x : Piece ℕ) (r : Result ℕ Offset) → IfOk r (λ next. next ≤ length text)
           → IfOk (elim r as (λ r. Result (Piece ℕ) Offset) [
@@ -148,7 +148,7 @@ module _ (text : List ℕ) where
           → IfOk (elim o as (λ o. Result (Piece ℕ) Offset) [ None ↦ bad at | Some x ↦ ended_by text word x ])
           (λ x. x.next ≤ length text)
       go None f = tt
-      go (Some x) f = behind x (word_at text x.next word) (word-inside text x.next f word)
+      go (Some x) f = behind x (word_at text x.next word) (word-inside text x.next word f)
 
   pub row_inside : (numbers mosts : List ℕ) (at : ℕ) → at ≤ length text
       → IfOk (row_from text numbers mosts at) (λ row. row.next ≤ length text)

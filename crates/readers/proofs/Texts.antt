@@ -8,13 +8,12 @@ use borrow.Author.Tests.{eq-eqb, ne_eqb}
 use native.Mathlib.Omega.{arith}
 use lib.ListN.{length, get_or, length-append}
 use Rattle.std.specs.Prelude.{Ok, Err}
-use Rattle.forms.specs.Forms.{Form, columns, crlf}
+use Rattle.forms.specs.Forms.{Form, crlf}
 use Rattle.forms.specs.Reads.{found, refused}
 use Rattle.forms.specs.Reader.{State, word, cell, may_begin, may_end, step, rows_at, read}
 use Rattle.readers.specs.declared.Offset.{Offset}
 use Rattle.readers.specs.declared.Piece.{Piece}
 use Rattle.readers.specs.Places.{agree_at, bad, word_at, row_at}
-use Rattle.readers.proofs.Rows.{word-inside, row_inside}
 use Rattle.readers.proofs.Along
 use Rattle.readers.proofs.Along.{from, short, halt, alike-inside, alike, Agreed, agrees, differs, agreed}
 use Rattle.readers.proofs.Cells.{RowOn, rowed}
@@ -48,9 +47,6 @@ module _ (F : Form) (text : List ℕ) where
         where
           no : Ok k ≡ bad (agree_at text 0 head) → ⊥
           no e = let z : ◌≡◌ {A = ℕ} 0 1 = cc in omega arith
-
-  pub head-inside : (k : ℕ) → Ok k ≡ word_at text 0 (F.header ++ crlf) → k ≤ length text
-  head-inside k e = rw (← e) at (word-inside text 0 (omega arith) (F.header ++ crlf))
 
   pub ends : (rows : List (List ℕ)) (at : ℕ) → may_end F.one rows ≡ true → length text ≤ at
       → from F text at (word rows []) ≡ found rows
@@ -92,7 +88,6 @@ module _ (F : Form) (text : List ℕ) where
 pub record Line (F : Form) (text : List ℕ) (rows : List (List ℕ)) (at n : ℕ) : Type 0 where
   pub on : read F text ≡ from F text at (word rows [])
   pub count : n ≡ length rows
-  pub inside : at ≤ length text
   pub few : n ≤ at
 
 module _ (F : Form) (many : F.one ≡ false) (text : List ℕ) where
@@ -101,7 +96,6 @@ module _ (F : Form) (many : F.one ≡ false) (text : List ℕ) where
       record {
         on = head-good F text k e;
         count = refl;
-        inside = head-inside F text k e;
         few = omega arith;
       }
 
@@ -123,6 +117,5 @@ module _ (F : Form) (many : F.one ≡ false) (text : List ℕ) where
             record {
               on = h.on ∙ begins F text rows at (rw many) less ∙ r.on;
               count = let c = h.count in simp length-append (omega arith);
-              inside = rw (← e) at (row_inside text [] (columns F) at h.inside);
               few = let c = h.few in let g = r.far in omega arith;
             }

@@ -8,18 +8,16 @@ use borrow.Author.Tests.{eqb-true}
 use lib.Dec.{eqb}
 use lib.ListN.{length, drop}
 use Rattle.std.specs.Prelude.{Result, Ok, Err}
-use Rattle.forms.specs.Bytes.{comma}
-use Rattle.forms.specs.Forms.{largest, columns, ticks_form, crlf}
+use Rattle.forms.specs.Forms.{columns, ticks_form, crlf}
 use Rattle.forms.specs.Reads.{Answer, found, refused}
 use Rattle.forms.specs.Reader.{run, later, word, step, rows_at, read}
 use Rattle.forms.proofs.Shift.{prefixed, shift-run}
 use Rattle.readers.specs.declared.Offset.{Offset}
 use Rattle.readers.specs.declared.Piece.{Piece}
 use Rattle.readers.specs.Inputs.{tick_of, first_tick, tick_at}
-use Rattle.readers.specs.Places.{agree_at, row_from, row_at}
+use Rattle.readers.specs.Places.{agree_at, row_at}
 use Rattle.readers.proofs.Along.{from}
-use Rattle.readers.proofs.Places.{number_short}
-use Rattle.readers.proofs.Rows.{cell-none, row_inside}
+use Rattle.readers.proofs.Rows.{row_inside}
 use Rattle.readers.proofs.Texts.{Line, head-bad, head-good, ends, opening, begins, row-good, row-bad}
 
 -- from this place on, as if it were the first line, these rows
@@ -111,12 +109,6 @@ ticks-next text at rows e l = go (row_at text at ticks_form) refl
       where
         no : found rows ≡ refused offset.0 → ⊥
         no e = let z : ◌≡◌ {A = ℕ} 0 1 = cc in omega arith
-
-pub tick-short : (text : List ℕ) (at : ℕ) → length text ≤ at
-    → tick_at text at ≡ record { tick = record { released = 0; finished = 0 }; next = at }
-unfolding tick_at row_from
-tick-short text at h =
-    rw (tick_at, row_from, cell-none largest text at (comma ∷ []) (number_short largest text at h)) refl
 
 -- at a line's beginning, where n rows have come
 pub record Counted (text : List ℕ) (at n : ℕ) : Type 0 where

@@ -1,7 +1,7 @@
 // Readers of document 01's texts. Each reads as far as a good text could go, and says where that is.
 #![tactic(auto)]
 
-ghost use Rattle.std.specs.Prelude.{◌+◌, ◌*◌, ◌<◌, ◌≤◌, ◌≡◌, [], leb, length};
+ghost use Rattle.std.specs.Prelude.{◌+◌, ◌*◌, ◌<◌, ◌≡◌, [], leb};
 ghost use Rattle.forms.specs.Forms.{ending, platform_form, tasks_form, ticks_form};
 ghost use Rattle.forms.specs.Reader.{read};
 ghost use Rattle.readers.specs.Inputs.{bad_text, platform_of, platform_read, task_of, table_read};
@@ -36,7 +36,6 @@ impl From<Offset> for Refusal {
 
 // The place behind the word that stands at a place.
 fn word_at(s: &[u8], at: usize, word: &[u8]) -> Result<usize, Offset>
-    requires { at ≤ length s.now }
     ensures { result ≡ word_at s.now at word.now }
 {
     for i in 0..word.len() {
@@ -78,7 +77,6 @@ fn has_room(most: u64, v: u64, d: u64) -> bool
 
 // The number of a column at a place, where one begins.
 fn number_at(s: &[u8], at: usize, most: u64) -> Option<Piece<u64>>
-    requires { at ≤ length s.now }
     ensures { result ≡ number_at most s.now at }
 {
     if s.len() <= at {
@@ -106,7 +104,6 @@ fn number_at(s: &[u8], at: usize, most: u64) -> Option<Piece<u64>>
 
 // The number of a column at a place, and what ends it where so many more follow in its row.
 fn cell_at(s: &[u8], at: usize, most: u64, left: usize) -> Result<Piece<u64>, Offset>
-    requires { at ≤ length s.now }
     ensures { result ≡ cell_at most s.now at (ending left) }
 {
     let Some(x) = number_at(s, at, most) else {
@@ -129,7 +126,6 @@ fn row_at<const N: usize>(
     at: usize,
     columns: &[u64; N],
 ) -> Result<Piece<[u64; N]>, Offset>
-    requires { at ≤ length s.now }
     ensures { result ≡ row_from s.now [] columns.now at }
 {
     let mut numbers = [0; N];
@@ -145,6 +141,7 @@ fn row_at<const N: usize>(
     })
 }
 
+// Numbers of 32 bits, which `as` is proved to keep; TryFrom would have an Err that never comes. So also below.
 fn platform_of(numbers: [u64; 2]) -> Platform
     requires { Narrow numbers }
     ensures { result ≡ platform_of numbers }
@@ -246,12 +243,6 @@ pub fn read_ticks(s: &[u8]) -> Result<usize, Refusal>
 pub fn tick_at(s: &[u8], at: usize) -> TickRead
     ensures { result ≡ tick_at s.now at }
 {
-    if s.len() < at {
-        return TickRead {
-            tick: tick_of([0, 0]),
-            next: at,
-        };
-    }
     match row_at(s, at, &[LARGEST; 2]) {
         Ok(row) => TickRead {
             tick: tick_of(row.value),

@@ -2,14 +2,11 @@ use Rattle.std.proofs.Common.{Err}
 use mathlib.Core.Path.{◌≡◌, sym, ap, ◌∙◌}
 use Rattle.std.proofs.lemmas.Result.{err_from_is_err_and}
 use Rattle.forms.proofs.Lines.{ending-more}
-use Rattle.readers.proofs.Rows.{number-inside, cell-none, cell-cut, cell-full}
+use Rattle.readers.proofs.Rows.{cell-none, cell-cut, cell-full}
 use Rattle.readers.proofs.cell_at.Goals as goal
 
 pub returns-in_default : goal.returns-in_default
 returns-in_default c = sym (cell-none c.args.most c.args.s.now c.args.at _ (sym c.in_default.ensures))
-
-pub word_at-requires : goal.word_at-requires
-word_at-requires c = rw (← c.in-Some.ensures) at (number-inside c.args.s.now c.args.at c.requires c.args.most)
 
 pub returns-in_err-next : goal.returns-in_err-next
 returns-in_err-next c =
@@ -18,10 +15,6 @@ returns-in_err-next c =
     rw none
     (given.1 ∙ ap Err given.2
     ∙ cell-cut c.args.most c.args.s.now c.args.at _ _ c.in-Some.ensures _ c.in_err-next.ensures)
-
-pub word_at-requires-else-left-eq0 : goal.word_at-requires-else-left-eq0
-word_at-requires-else-left-eq0 c =
-    rw (← c.in-Some.ensures) at (number-inside c.args.s.now c.args.at c.requires c.args.most)
 
 pub returns-in_err-next-2 : goal.returns-in_err-next-2
 returns-in_err-next-2 c =

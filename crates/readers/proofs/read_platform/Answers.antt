@@ -1,11 +1,10 @@
 use Rattle.std.proofs.Common.{Ok, Err}
 use mathlib.Core.Path.{sym, ap, ◌∙◌}
-use lib.Dec.{lit<}
 use Rattle.std.proofs.lemmas.Result.{err_from_is_err_and}
 use Rattle.forms.specs.Forms.{platform_form}
 use Rattle.readers.specs.Inputs.{platform_read}
 use Rattle.readers.proofs.Rows.{row-narrow}
-use Rattle.readers.proofs.Texts.{head-bad, head-inside}
+use Rattle.readers.proofs.Texts.{head-bad}
 use Rattle.readers.proofs.Platforms.{cut-row, second-row, one-row}
 use Rattle.readers.proofs.read_platform.Goals as goal
 
@@ -13,9 +12,6 @@ pub returns-in_err-at : goal.returns-in_err-at
 returns-in_err-at c =
     let given = err_from_is_err_and c.from_residual.result c.from_residual.ensures.1 in
     given.1 ∙ ap Err given.2 ∙ sym (ap platform_read (head-bad platform_form c.args.s.now _ c.in_err-at.ensures))
-
-pub row_at-requires : goal.row_at-requires
-row_at-requires c = (lit< tt, head-inside platform_form c.args.s.now _ c.in_ok-at.ensures)
 
 pub returns-in_err-row : goal.returns-in_err-row
 returns-in_err-row c =

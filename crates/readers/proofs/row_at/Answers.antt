@@ -1,16 +1,14 @@
 use Rattle.std.proofs.Common.{Err}
-use Prim.Native.Nat.{◌-◌}
 use mathlib.Core.Path.{◌≡◌, refl, sym, ap, ◌∙◌}
 use native.Mathlib.Omega.{arith}
 use native.Mathlib.Numerals.{add-one}
 use borrow.Author.Rules.{rules}
-use lib.ListN.{length, get_or, length-set}
+use lib.ListN.{length, length-set}
 use lib.Seq.{take-suc-set}
 use Rattle.std.proofs.lemmas.List.{take_all}
 use Rattle.std.proofs.lemmas.Result.{err_from_is_err_and}
-use Rattle.forms.specs.Forms.{ending}
 use Rattle.maths.proofs.Lists.{len_mapped}
-use Rattle.readers.proofs.Rows.{cell-inside, row_more, row-stop, row-end}
+use Rattle.readers.proofs.Rows.{row_more, row-stop, row-end}
 use Rattle.readers.proofs.row_at.Goals as goal
 
 pub returns-in_err-x : goal.returns-in_err-x
@@ -20,7 +18,7 @@ returns-in_err-x g c =
     let wide : length columns ≡ g.row.N = search (len_mapped, rules) in
     let given = err_from_is_err_and c.from_residual.result c.from_residual.ensures.1 in
     given.1 ∙ ap Err given.2
-    ∙ sym (loop.invariant.2 ∙ row-stop c.args.s.now _ columns loop.j loop.next (omega arith) _
+    ∙ sym (loop.invariant.1 ∙ row-stop c.args.s.now _ columns loop.j loop.next (omega arith) _
     (rw wide c.in_err-x.ensures))
 
 pub loop-j-preserved : goal.loop-j-preserved
@@ -30,11 +28,9 @@ loop-j-preserved g c =
     let columns = c.args.columns.now in
     let x = c.in_ok-x.x in
     let wide : length columns ≡ g.row.N = search (len_mapped, rules) in (
-      rw (← c.in_ok-x.ensures) at
-          (cell-inside s (get_or columns loop.j 0) loop.next (ending (g.row.N - loop.j - 1)) loop.invariant.0),
-      length-set loop.numbers loop.j x.value ∙ loop.invariant.1,
+      length-set loop.numbers loop.j x.value ∙ loop.invariant.0,
       rw (add-one, take-suc-set loop.numbers loop.j x.value (omega arith))
-          (loop.invariant.2 ∙ row_more s _ columns loop.j loop.next (omega arith) _ (rw wide c.in_ok-x.ensures)),
+          (loop.invariant.1 ∙ row_more s _ columns loop.j loop.next (omega arith) _ (rw wide c.in_ok-x.ensures)),
     )
 
 pub returns : goal.returns
@@ -42,5 +38,5 @@ returns g c =
     let loop = c.loop-j in
     let columns = c.args.columns.now in
     let wide : length columns ≡ g.row.N = search (len_mapped, rules) in
-    sym (loop.invariant.2 ∙ row-end c.args.s.now _ columns loop.j loop.next (omega arith)
+    sym (loop.invariant.1 ∙ row-end c.args.s.now _ columns loop.j loop.next (omega arith)
     ∙ rw (take_all loop.j loop.numbers (omega arith)) refl)

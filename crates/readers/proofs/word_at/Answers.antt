@@ -1,5 +1,6 @@
 use Prim.Native.Nat.{◌+◌}
 use mathlib.Core.Path.{◌≡◌, ap, ◌∙◌}
+use borrow.Author.Rules.{rules}
 use native.Mathlib.Omega.{arith}
 use lib.ListN.{length}
 use Rattle.readers.specs.Places.{agree_at}
@@ -20,12 +21,12 @@ returns-then-s-at c =
       | then-s-at-via-else-s-at+then-s-at-2 w ↦ c.loop-i.invariant.1
           ∙ agree-other s (at + i) word i w.if-s-at.false c.loop-i-test.true w.if-s-at-2.true
     ] in
-    word-part s at c.requires word (at + i) here (omega arith)
+    word-part s at word (at + i) here (omega arith)
 
 pub loop-i-preserved : goal.loop-i-preserved
 loop-i-preserved c =
     let further : c.args.at + (c.loop-i.i + 1) ≡ c.args.at + c.loop-i.i + 1 = omega arith in (
-      omega arith,
+      search rules,
       rw further (c.loop-i.invariant.1 ∙ agree-more c.args.s.now (c.args.at + c.loop-i.i) c.args.word.now c.loop-i.i
           c.if-s-at.false c.loop-i-test.true c.if-s-at-2.false),
     )
@@ -34,5 +35,5 @@ pub returns : goal.returns
 returns c =
     let word = c.args.word.now in
     let at-end : c.loop-i.i ≡ length word = omega arith in
-    word-whole c.args.s.now c.args.at c.requires word
+    word-whole c.args.s.now c.args.at word
     (c.loop-i.invariant.1 ∙ agree-end _ word _ c.loop-i.i (omega arith) ∙ ap (λ i. c.args.at + i) at-end)

@@ -1,5 +1,5 @@
 -- Laws of the test's definitions, for what stands on them.
-use Prim.Native.Nat.{ℕ, zero, suc, ◌+◌, ◌-◌, ◌*◌, ◌<◌, ◌≤◌, max}
+use Prim.Native.Nat.{ℕ, zero, suc, ◌+◌, ◌-◌, ◌<◌, ◌≤◌, max}
 use mathlib.Core.Path.{◌≡◌, refl, sym, ◌∙◌, ap}
 use mathlib.Core.Bool.{Bool, true, false, cond, not}
 use mathlib.Core.List.{List}
@@ -12,14 +12,12 @@ use lib.IntN.{ℤ, pos, sub_ℕ}
 use lib.Dec.{ltb, eqb, leb}
 use lib.ListN.{set, replicate}
 use borrow.Author.Tests.{lt-ltb, le-ltb, ltb-true, ltb-false, le-leb, lt-leb}
-use Rattle.maths.specs.Sums.{sum}
-use Rattle.maths.proofs.Sums.{sum-zero, sum_more, sum_grows}
 use Rattle.maths.specs.Tasks.{tabulate}
 use Rattle.maths.proofs.Tasks.{every-lowest, set-tabulate}
 use Rattle.table.specs.declared.Table.{Table}
 use Rattle.table.specs.Limits.{most_tasks}
 use Rattle.table.specs.Tasks.{τ, A}
-use Rattle.admission.specs.Test.{Amax, less, margin, above0, passes, weight, load, limit, interference, admitted}
+use Rattle.admission.specs.Test.{Amax, less, margin, above0, passes, load, limit, admitted}
 use Rattle.admission.specs.Test.{first_failing}
 
 -- no task of 1 to k asks for more than Amax of k
@@ -60,25 +58,6 @@ passes-is t k = above0-less (limit t k) (load t k)
 -- admitted is that no task fails
 pub admitted-is : (t : Table) → admitted t ≡ eqb (first_failing t) 0
 admitted-is t = every-lowest (passes t) t.n
-
--- what the first i tasks add to the load of task k
-abbrev pub load_to : Table → ℕ → ℕ → ℕ
-load_to t k i = sum (λ j. weight t k (suc j) * interference t k (suc j)) i
-
-module _ (t : Table) (k : ℕ) where
-  pub load-none : load_to t k 0 ≡ 0
-  load-none = sum-zero (λ j. weight t k (suc j) * interference t k (suc j))
-
-  pub load-more : (i : ℕ) → load_to t k (i + 1) ≡ load_to t k i + weight t k (suc i) * interference t k (suc i)
-  load-more i = sum_more (λ j. weight t k (suc j) * interference t k (suc j)) i
-
-  pub load-all : load_to t k t.n ≡ load t k
-  unfolding load
-  load-all = refl
-
-  -- a load of more tasks is no smaller
-  pub load_grows : (i n : ℕ) → i ≤ n → load_to t k i ≤ load_to t k n
-  load_grows i n l = sum_grows (λ j. weight t k (suc j) * interference t k (suc j)) i n l
 
 -- the margins as the loop over the tasks has them after k turns
 abbrev pub margins_to : Table → ℕ → List ℤ

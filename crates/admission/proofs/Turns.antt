@@ -1,110 +1,67 @@
--- What the loops of the answers know: over the rows, that none so far is refused; over the tasks, what was measured of
--- task k + 1, and its load up to row i.
-use Prim.Native.Nat.{ℕ, suc, ◌+◌, ◌-◌, ◌*◌, ◌<◌, ◌≤◌, max}
-use mathlib.Core.Path.{◌≡◌, sym, ◌∙◌, ap}
+-- What is measured of task k + 1 of a good table, and what the loops over the rows know of its load up to row i.
+use Prim.Native.Nat.{ℕ, suc, ◌+◌, ◌*◌, ◌<◌, ◌≤◌}
+use mathlib.Core.Path.{◌≡◌, refl, sym}
+use mathlib.Core.List.{List}
 use native.Mathlib.Omega.{arith}
-use borrow.Author.Tests.{eq-eqb, ne_eqb}
-use lib.ListN.{length, take, drop, get_or}
+use lib.ListN.{take, get_or}
+use lib.Seq.{get_or-take}
+use Rattle.maths.specs.Sums.{sum}
+use Rattle.maths.proofs.Sums.{sum-zero, sum_more, sum_mono, sum_const, sum_grows}
+use Rattle.table.specs.declared.Task.{Task}
 use Rattle.table.specs.declared.Table.{Table}
-use Rattle.table.specs.declared.Refusal.{Refusal}
-use Rattle.table.specs.Limits.{most_tasks, most_cores, most_partitions, longest_period}
-use Rattle.table.specs.Refused.{no_refusal, sizes_refusal, row_refusal, rows_from, refusal}
-use Rattle.table.specs.Tasks.{no_task, M, P, τ, D, C, A}
-use Rattle.table.specs.Good.{Good, GoodRow}
-use Rattle.table.proofs.Good.{good-sizes, good_of}
-use Rattle.table.proofs.Laws as checks
+use Rattle.table.specs.Limits.{most_tasks}
+use Rattle.table.specs.Tasks.{no_task, M, τ, A}
+use Rattle.table.specs.Good.{Good}
 use Rattle.lives.specs.Report.{equation3, weight_of, limit_of}
 use Rattle.admission.specs.declared.Measures.{Measures}
-use Rattle.admission.specs.Test.{row, S, Amax, B, interference, weight, limit}
-use Rattle.admission.proofs.Answers.{Refused, Unrefused}
-use Rattle.admission.proofs.Bounds.{Amax-suc, Amax-le, row-good, term_le, B-le, S-le, most_term}
-use Rattle.admission.proofs.Laws.{load_to, load-none, load-more}
+use Rattle.admission.specs.declared.Share.{Share}
+use Rattle.admission.specs.Test.{row, S, B, interference, load, limit}
+use Rattle.admission.specs.Shares.{share_in}
+use Rattle.admission.specs.Code.Shares.{share_by, load_by}
+use Rattle.admission.proofs.Bounds.{row-good, term_le, most_term}
 
--- the sizes and rows 1 to i earn no refusal
-pub record Checked (t : Table) (i : ℕ) : Type 0 where
-  pub whole : length t.rows ≡ most_tasks
-  pub few : t.n ≤ most_tasks
-  pub rest : refusal t ≡ rows_from (P t) (i + 1) (drop i (take t.n t.rows))
+-- what row j + 1 adds to the load, and the load of the first i rows
+abbrev pub term : Measures → Table → ℕ → ℕ
+term x t j = weight_of x.m.0 x.b.0 (A (τ t (suc j))) * equation3 x.s (row (τ t (suc j)))
 
-pub sizes-bad : (t : Table) {number : ℕ} → number ≡ sizes_refusal t → (number ≡ 0 → ⊥)
-    → Refused t (record { number = number; row = 0 })
-unfolding refusal
-sizes-bad t {number} e h = record { is = rw (← e) (simp (ne_eqb number 0 h)); some = h }
+abbrev pub loaded : Measures → Table → ℕ → ℕ
+loaded x t i = sum (term x t) i
 
-module _ {t : Table} where
-  pub checked_none : length t.rows ≡ most_tasks → sizes_refusal t ≡ 0 → Checked t 0
-  unfolding refusal
-  checked_none len e = record { whole = len; few = (good-sizes t e).few; rest = rw (eq-eqb (sizes_refusal t) 0 e) }
+module _ (x : Measures) (t : Table) where
+  pub loaded-none : 0 ≡ loaded x t 0
+  loaded-none = sym (sum-zero (term x t))
 
-  module _ {i : ℕ} (c : Checked t i) where
-    there : t.n ≤ length t.rows
-    there = omega (arith, c.whole)
+  pub loaded-more : {load i : ℕ} {share : Share} {rows : List Task} → load ≡ loaded x t i → rows ≡ take t.n t.rows
+      → i < t.n → share ≡ share_by x.m.0 x.b.0 x.s (get_or rows i no_task) → load + share.share ≡ loaded x t (i + 1)
+  loaded-more {load} {i} e are l is =
+      rw (is, are, get_or-take t.n t.rows i no_task l, e) (sym (sum_more (term x t) i))
 
-    pub row-refused : {number : ℕ} → i < t.n → number ≡ row_refusal (P t) (get_or t.rows i no_task) → (number ≡ 0 → ⊥)
-        → Refused t (record { number = number; row = i + 1 })
-    row-refused l e h = record { is = c.rest ∙ checks.row-bad (P t) t.n t.rows i l there _ e h; some = h }
+  -- a load is far below 2^64
+  pub loaded-small : Good t → {load i : ℕ} → load ≡ loaded x t i → i ≤ t.n → load ≤ most_tasks * most_term
+  loaded-small g {load} {i} e l =
+      let sum : loaded x t i ≤ i * most_term =
+      rw (← sum_const most_term i)
+      (sum_mono (term x t) (λ j. most_term) i
+      (λ j h. term_le (row-good g j (omega arith)) x.few_cores x.few_partitions x.short)) in
+      omega (arith, e, sum, g.sizes.few)
 
-    pub checked_more : i < t.n → 0 ≡ row_refusal (P t) (get_or t.rows i no_task) → Checked t (i + 1)
-    checked_more l e =
-        record { whole = c.whole; few = c.few; rest = c.rest ∙ checks.row-good (P t) t.n t.rows i l there e }
-
-    pub checked_all : i ≡ t.n → Unrefused t
-    checked_all e =
-        let is : refusal t ≡ no_refusal = c.rest ∙ rw e (checks.rows_end (P t) _ t.n t.rows there) in
-        record { is = is; good = good_of t c.whole (ap (λ (r : Refusal). r.number) is) }
+  pub loaded-grows : (i n : ℕ) → i ≤ n → loaded x t i ≤ loaded x t n
+  loaded-grows i n l = sum_grows (term x t) i n l
 
 pub record Measured (t : Table) (k : ℕ) (x : Measures) : Type 0 where
-  pub most : x.most.0 ≡ Amax t (suc k)
+  pub m : x.m.0 ≡ M t
   pub b : x.b.0 ≡ B t (suc k)
   pub s : x.s ≡ S t (suc k)
 
-pub record Loading (t : Table) (k : ℕ) (x : Measures) (load i : ℕ) : Type 0 where
-  pub good : Good t
-  pub task : k < t.n
-  pub measures : Measured t k x
-  pub is : load ≡ load_to t (suc k) i
-  pub small : load ≤ i * most_term
+module _ {t : Table} {k : ℕ} {x : Measures} (e : Measured t k x) where
+  pub loading_more : load_by x.m.0 x.b.0 x.s t ≡ load t (suc k)
+  unfolding load interference
+  loading_more = rw (e.m, e.b, e.s) refl
 
-module _ {t : Table} (g : Good t) {k : ℕ} (l : k < t.n) where
-  pub measured_needs : {a : ℕ} → a ≡ Amax t k → (a ≤ P t) × (P t ≤ most_partitions) × GoodRow (P t) (τ t (suc k))
-  measured_needs e = (rw e (Amax-le g k (omega arith)), g.sizes.partitions, g.row k l)
+  pub limit-is : limit_of x.m.0 x.b.0 x.s ≡ limit t (suc k)
+  unfolding limit
+  limit-is = rw (e.m, e.b, e.s)
 
-  module _ {x : Measures} where
-    pub measured : {a : ℕ} → a ≡ Amax t k → x.most.0 ≡ max a (A (τ t (suc k)))
-        → x.b.0 ≡ P t - max a (A (τ t (suc k))) + 1 → x.s ≡ D (τ t (suc k)) - C (τ t (suc k)) → Measured t k x
-    measured e most b s = record { most = omega (arith, Amax-suc g k); b = omega (arith, Amax-suc g k); s = s }
-
-    module _ (m : Measured t k x) where
-      pub limited_needs : (M t ≤ most_cores) × (x.b.0 ≤ most_partitions + 1) × (x.s ≤ longest_period)
-      limited_needs = (g.sizes.cores, omega (arith, m.b, B-le g k l), omega (arith, m.s, S-le g k l))
-
-      pub limit_is : limit_of (M t) x.b.0 x.s ≡ limit t (suc k)
-      unfolding limit
-      limit_is = rw (m.b, m.s)
-
-      pub loading_none : Loading t k x 0 0
-      loading_none = record { good = g; task = l; measures = m; is = sym (load-none t (suc k)); small = omega arith }
-
-module _ {t : Table} {k : ℕ} {x : Measures} {load i : ℕ} (c : Loading t k x load i) (h : i < t.n) where
-  pub term_needs : (M t ≤ most_cores) × (x.b.0 ≤ most_partitions + 1) × (x.s ≤ longest_period)
-      × GoodRow most_partitions (τ t (suc i))
-  term_needs =
-      let n = limited_needs c.good c.task c.measures in
-      (n.0, n.1, n.2, row-good c.good i h)
-
-  pub loading_more : {term : ℕ}
-      → term ≡ weight_of (M t) x.b.0 (A (τ t (suc i))) * equation3 x.s (row (τ t (suc i)))
-      → Loading t k x (load + term) (i + 1)
+  pub share-is : (i : ℕ) → share_by x.m.0 x.b.0 x.s (τ t (suc i)) ≡ share_in t (suc k) (suc i)
   unfolding interference
-  loading_more {term} e =
-      let m = c.measures in
-      let n = term_needs in
-      let adds : term ≡ weight t (suc k) (suc i) * interference t (suc k) (suc i) = e ∙ rw (m.b, m.s) in
-      let most : term ≤ most_term = rw e (term_le n.3 n.0 n.1 n.2) in
-      record {
-        good = c.good;
-        task = c.task;
-        measures = m;
-        is = omega (arith, load-more t (suc k) i, c.is);
-        small = omega (arith, c.small);
-      }
+  share-is i = rw (e.m, e.b, e.s) refl

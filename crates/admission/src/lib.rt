@@ -1,17 +1,17 @@
 // The admission answers: the second test of the report, task by task, with exact margins.
 #![tactic(auto)]
 
-ghost use Rattle.std.specs.Prelude.{◌≡◌, ℕ, suc, ◌+◌, ◌-◌, ◌*◌, ◌^◌, ◌<◌, ◌≤◌, max, cond, not, ◌&&◌, leb};
-ghost use Rattle.maths.specs.Tasks.{or_else};
+ghost use Rattle.std.specs.Prelude.{◌≡◌, suc, ◌+◌, ◌^◌, ◌<◌, ◌≤◌, max, not, length, take, MatchResult};
+ghost use Rattle.std.specs.List.{position};
 ghost use Rattle.table.specs.Good.{Good, GoodRow};
 ghost use Rattle.table.specs.Limits.{most_tasks, most_cores, most_partitions, longest_period};
-ghost use Rattle.table.specs.Tasks.{D, C};
+ghost use Rattle.table.specs.Tasks.{M};
 ghost use Rattle.lives.specs.Report.{equation3, weight_of, limit_of};
-ghost use Rattle.admission.specs.Test.{row, Amax, less, above0};
-ghost use Rattle.admission.specs.Answers.{full_refused, quick_refused, full_answer, quick_answer};
-ghost use Rattle.admission.specs.Shares.{no_share, share_in, share_answer};
-ghost use Rattle.admission.specs.Code.Shares.{Bounded, share_of};
-ghost use Rattle.admission.specs.Code.Judged.{full_judged, quick_judged};
+ghost use Rattle.admission.specs.Test.{row, S, Amax, B, less, above0, first_failing};
+ghost use Rattle.admission.specs.Answers.{margins, quick_refused, full_answer, quick_answer};
+ghost use Rattle.admission.specs.Shares.{is_task, share_in, share_answer};
+ghost use Rattle.admission.specs.Code.Shares.{share_by, load_by};
+ghost use Rattle.admission.specs.Code.Judged.{Refused, Unrefused, found, judged, with_margins};
 
 use table::{Cores, Partitions, Refusal, Table, Task};
 
@@ -25,19 +25,22 @@ pub struct FullAnswer {
 }
 
 // What a task takes of another's limit, and the two numbers that it is the product of.
-#[derive(Clone, Copy)]
+#[derive(Clone, Copy, Default)]
 pub struct Share {
     pub interference: u64,
     pub weight: u64,
     pub share: u64,
 }
 
-// Of one task: Amax and B, counts of partitions, and its slack.
+// M, and of one task B, a count of partitions, and its slack.
 #[derive(Clone, Copy)]
 struct Measures {
-    most: Partitions,
+    m: Cores,
     b: Partitions,
     s: u32,
+    ghost few_cores: { m.0 ≤ most_cores },
+    ghost few_partitions: { b.0 ≤ most_partitions + 1 },
+    ghost short: { s ≤ longest_period },
 }
 
 #[repr(C)]
@@ -48,54 +51,113 @@ pub struct QuickAnswer {
     pub first: usize,
 }
 
-// Equation 3, of a task in a window of s ticks.
-fn interferes(s: u32, task: Task) -> u64
-    requires { (s ≤ longest_period)
-        × GoodRow most_partitions task }
-    ensures { result ≡ equation3 s (row task) }
-{
-    let jobs = s / task.t + 2;
-    (jobs as u64) * (task.c as u64)
-}
+impl Measures {
+    // Of task k + 1, from its Amax.
+    fn of(t: &Table, k: usize, most: Partitions) -> Measures
+        requires { Good t.now × (k < t.now.n) × (most.0 ≡ Amax t.now (suc k)) }
+        ensures { (result.m.0 ≡ M t.now) × (result.b.0 ≡ B t.now (suc k)) × (result.s ≡ S t.now (suc k)) }
+    {
+        let task = &t.rows[k];
+        Measures {
+            m: t.platform.cores,
+            b: Partitions(t.platform.partitions.0 - most.0 + 1),
+            s: task.d - task.c,
+        }
+    }
 
-// The weight of a task in the load of one whose B is b.
-fn weighs(m: Cores, b: Partitions, task: Task) -> u32
-    requires { (m.0 ≤ most_cores) × GoodRow most_partitions task }
-    ensures { result ≡ weight_of m.0 b.0 task.a.0 }
-{
-    let share = m.0 * task.a.0;
-    if share < b.0 { b.0 } else { share }
-}
+    // Equation 3, of a task in a window of the slack.
+    fn interference(&self, task: &Task) -> u64
+        requires { GoodRow most_partitions task.now }
+        ensures { result ≡ equation3 self.now.s (row task.now) }
+    {
+        let jobs = self.s / task.t + 2;
+        u64::from(jobs) * u64::from(task.c)
+    }
 
-// What a task adds to the load of one whose B is b and whose slack is s.
-fn term(m: Cores, b: Partitions, s: u32, task: Task) -> u64
-    requires { (m.0 ≤ most_cores) × (b.0 ≤ most_partitions + 1) × (s ≤ longest_period)
-        × GoodRow most_partitions task }
-    ensures { result ≡ weight_of m.0 b.0 task.a.0 * equation3 s (row task) }
-{
-    let w = weighs(m, b, task);
-    (w as u64) * interferes(s, task)
-}
+    // The weight of a task in the load.
+    fn weight(&self, task: &Task) -> u64
+        requires { GoodRow most_partitions task.now }
+        ensures { result ≡ weight_of self.now.m.0 self.now.b.0 task.now.a.0 }
+    {
+        let share = self.m.0 * task.a.0;
+        u64::from(self.b.0.max(share))
+    }
 
-// What a task takes of the limit of one whose B is b and whose slack is s.
-fn shared(m: Cores, b: Partitions, s: u32, task: Task) -> Share
-    requires { Bounded m.0 b.0 s task }
-    ensures { result ≡ share_of m.0 b.0 s task }
-{
-    let w = weighs(m, b, task);
-    Share {
-        interference: interferes(s, task),
-        weight: w as u64,
-        share: term(m, b, s, task),
+    // What a task takes of the limit: its term of the load.
+    fn share(&self, task: &Task) -> Share
+        requires { GoodRow most_partitions task.now }
+        ensures { result ≡ share_by self.now.m.0 self.now.b.0 self.now.s task.now }
+    {
+        let interference = self.interference(task);
+        let weight = self.weight(task);
+        let share = weight * interference;
+        Share {
+            interference,
+            weight,
+            share,
+        }
+    }
+
+    fn load(&self, t: &Table) -> u64
+        requires { Good t.now }
+        ensures { result ≡ load_by self.now.m.0 self.now.b.0 self.now.s t.now }
+    {
+        let mut load = 0;
+        for task in first_tasks(t, t.n) {
+            load += self.share(task).share;
+        }
+        load
+    }
+
+    fn limit(&self) -> u64
+        ensures { result ≡ limit_of self.now.m.0 self.now.b.0 self.now.s }
+    {
+        u64::from(self.m.0) * u64::from(self.b.0) * u64::from(self.s)
     }
 }
 
-// The limit of a task whose B is b and whose slack is s.
-fn limited(m: Cores, b: Partitions, s: u32) -> u64
-    requires { (m.0 ≤ most_cores) × (b.0 ≤ most_partitions + 1) × (s ≤ longest_period) }
-    ensures { result ≡ limit_of m.0 b.0 s }
+impl QuickAnswer {
+    // A refused table: all else is 0.
+    fn refused(refused: Refusal) -> QuickAnswer
+        ensures { result ≡ quick_refused refused }
+    {
+        QuickAnswer {
+            refused,
+            admitted: false,
+            first: 0,
+        }
+    }
+
+    // A table that is not refused, from the first task that does not pass.
+    fn judged(first: Option<usize>) -> QuickAnswer
+        ensures { result ≡ judged first }
+    {
+        QuickAnswer {
+            refused: Refusal { number: 0, row: 0 },
+            admitted: first.is_none(),
+            first: first.unwrap_or(0),
+        }
+    }
+
+    // The same with the margin of each task.
+    fn with(self, margins: [i64; Table::MOST]) -> FullAnswer
+        ensures { result ≡ with_margins self margins }
+    {
+        FullAnswer {
+            refused: self.refused,
+            admitted: self.admitted,
+            first: self.first,
+            margins,
+        }
+    }
+}
+
+// What the check finds of a table. The read of a row is for the proof, which learns from it how many there are.
+fn checked(t: &Table) -> Result<(), Refusal>
+    ensures { MatchResult result (λ _. Unrefused t.now) (λ r. Refused t.now r) }
 {
-    (m.0 as u64) * (b.0 as u64) * (s as u64)
+    let _row = t.rows[0];
+    t.check()
 }
 
 // The exact difference, below, at and above 0.
@@ -106,232 +168,125 @@ fn difference(a: u64, b: u64) -> i64
     (a as i64) - (b as i64)
 }
 
-// Amax of task k + 1, from its row and from the Amax of task k.
-fn largest(row: Task, most: Partitions) -> Partitions
-    ensures { result.0 ≡ max most.0 row.a.0 }
+// Tasks 1 to k.
+fn first_tasks(t: &Table, k: usize) -> &[Task]
+    requires { k ≤ most_tasks }
+    ensures are { result.now ≡ take k t.now.rows }
+    ensures many { length result.now ≡ k }
 {
-    if most.0 < row.a.0 { row.a } else { most }
+    &t.rows[..k]
 }
 
-// Amax, B and S of task k + 1 on p partitions, from its row and from the Amax of task k.
-fn measured(p: Partitions, most: Partitions, row: Task) -> Measures
-    requires { (most.0 ≤ p.0) × (p.0 ≤ most_partitions) × GoodRow p.0 row }
-    ensures { (result.most.0 ≡ max most.0 row.a.0) × (result.b.0 ≡ p.0 - max most.0 row.a.0 + 1)
-        × (result.s ≡ D row - C row) }
+// Amax of a task, from its row and from the Amax of the task before.
+fn largest(most: Partitions, task: &Task) -> Partitions
+    ensures { result.0 ≡ max most.0 task.now.a.0 }
 {
-    let most = largest(row, most);
-    Measures {
-        most: most,
-        b: Partitions(p.0 - most.0 + 1),
-        s: row.d - row.c,
-    }
-}
-
-// The first failing task of tasks 1 to k + 1, from that of tasks 1 to k and the margin of task k + 1.
-fn first_with(first: usize, k: usize, margin: i64) -> usize
-    requires { k < most_tasks }
-    ensures { result ≡ or_else first (cond (not (above0 margin)) (suc k) 0) }
-{
-    if 0 < first {
-        return first;
-    }
-    if 0 < margin {
-        return 0;
-    }
-    k + 1
-}
-
-// A refused table: all else is 0.
-fn full_refused(number: u32, row: usize) -> FullAnswer
-    ensures { result ≡ full_refused (record { number = number; row = row }) }
-{
-    FullAnswer {
-        refused: Refusal {
-            number: number,
-            row: row,
-        },
-        admitted: false,
-        first: 0,
-        margins: [0i64; Table::MOST],
-    }
-}
-
-fn quick_refused(number: u32, row: usize) -> QuickAnswer
-    ensures { result ≡ quick_refused (record { number = number; row = row }) }
-{
-    QuickAnswer {
-        refused: Refusal {
-            number: number,
-            row: row,
-        },
-        admitted: false,
-        first: 0,
-    }
-}
-
-// A table that is not refused, from the first task that does not pass.
-fn full_judged(first: usize, margins: [i64; Table::MOST]) -> FullAnswer
-    ensures { result ≡ full_judged first margins }
-{
-    FullAnswer {
-        refused: Refusal { number: 0, row: 0 },
-        admitted: first == 0,
-        first: first,
-        margins: margins,
-    }
-}
-
-fn quick_judged(failing: usize) -> QuickAnswer
-    ensures { result ≡ quick_judged failing }
-{
-    QuickAnswer {
-        refused: Refusal { number: 0, row: 0 },
-        admitted: failing == 0,
-        first: failing,
-    }
-}
-
-// The verdict, the first task that does not pass, and the margin of each task; or the refusal. A function that is
-// handed a table copies it, so that the loops stand here and hand on one row.
-pub fn full_answer(t: Table) -> FullAnswer
-    ensures { result ≡ full_answer t }
-{
-    let n = t.n;
-    let m = t.platform.cores;
-    let p = t.platform.partitions;
-    let sizes = t.sizes_refused();
-    if sizes != 0 {
-        return full_refused(sizes, 0);
-    }
-    let mut row: usize = 0;
-    while row < n {
-        let number = t.rows[row].refused(p);
-        if number != 0 {
-            return full_refused(number, row + 1);
-        }
-        row += 1;
-    }
-    let mut margins = [0i64; Table::MOST];
-    let mut first: usize = 0;
-    let mut most = Partitions(0);
-    let mut k: usize = 0;
-    while k < n {
-        let x = measured(p, most, t.rows[k]);
-        most = x.most;
-        let mut load: u64 = 0;
-        let mut i: usize = 0;
-        while i < n {
-            load += term(m, x.b, x.s, t.rows[i]);
-            i += 1;
-        }
-        let l = limited(m, x.b, x.s);
-        let margin = difference(l, load);
-        margins[k] = margin;
-        first = first_with(first, k, margin);
-        k += 1;
-    }
-    full_judged(first, margins)
-}
-
-// The verdict and the first task that does not pass; or the refusal. Both loops are left at once where a load reaches
-// its limit.
-pub fn quick_answer(t: Table) -> QuickAnswer
-    ensures { result ≡ quick_answer t }
-{
-    let n = t.n;
-    let m = t.platform.cores;
-    let p = t.platform.partitions;
-    let sizes = t.sizes_refused();
-    if sizes != 0 {
-        return quick_refused(sizes, 0);
-    }
-    let mut row: usize = 0;
-    while row < n {
-        let number = t.rows[row].refused(p);
-        if number != 0 {
-            return quick_refused(number, row + 1);
-        }
-        row += 1;
-    }
-    let mut answer = quick_judged(0);
-    let mut most = Partitions(0);
-    let mut k: usize = 0;
-    'tasks: while k < n {
-        let x = measured(p, most, t.rows[k]);
-        most = x.most;
-        let l = limited(m, x.b, x.s);
-        let mut load: u64 = 0;
-        let mut i: usize = 0;
-        while i < n {
-            load += term(m, x.b, x.s, t.rows[i]);
-            if l <= load {
-                answer = quick_judged(k + 1);
-                break 'tasks;
-            }
-            i += 1;
-        }
-        k += 1;
-    }
-    answer
+    Partitions(most.0.max(task.a.0))
 }
 
 // Amax of task k.
-fn amax(t: Table, k: usize) -> Partitions
+fn amax(t: &Table, k: usize) -> Partitions
     requires { k ≤ most_tasks }
-    ensures { result.0 ≡ Amax t k }
+    ensures { result.0 ≡ Amax t.now k }
 {
     let mut most = Partitions(0);
-    let mut i: usize = 0;
-    while i < k {
-        most = largest(t.rows[i], most);
-        i += 1;
+    for task in first_tasks(t, k) {
+        most = largest(most, task);
     }
     most
 }
 
-fn is_task(n: usize, k: usize) -> bool
-    ensures { result ≡ (leb 1 k && leb k n) }
+// The margin of each task.
+fn margins(t: &Table) -> [i64; Table::MOST]
+    requires { Good t.now }
+    ensures { result ≡ margins t.now }
 {
-    if k < 1 {
-        return false;
+    let mut margins = [0; Table::MOST];
+    let mut most = Partitions(0);
+    for k in 0..t.n {
+        most = largest(most, &t.rows[k]);
+        let x = Measures::of(t, k, most);
+        margins[k] = difference(x.limit(), x.load(t));
     }
-    k <= n
+    margins
 }
 
-fn no_share() -> Share
-    ensures { result ≡ no_share }
+// The first margin that is not above 0.
+fn first_not_above_0(margins: &[i64]) -> Option<usize>
+    ensures { result ≡ position (λ z. not (above0 z)) margins.now }
 {
-    Share {
-        interference: 0,
-        weight: 0,
-        share: 0,
+    margins.iter().position(|margin| *margin <= 0)
+}
+
+// The verdict, the first task that does not pass, and the margin of each task; or the refusal.
+pub fn full_answer(t: &Table) -> FullAnswer
+    ensures { result ≡ full_answer t.now }
+{
+    match checked(t) {
+        Ok(()) => {
+            let margins = margins(t);
+            let first = first_not_above_0(&margins[..t.n]).map(|k| k + 1);
+            QuickAnswer::judged(first).with(margins)
+        }
+        Err(refused) => QuickAnswer::refused(refused).with([0; Table::MOST]),
     }
+}
+
+// The first task that does not pass. Two loops in one function: document 01 names this form, nested loops left by label
+// with the number of that task, at once where a load reaches its limit.
+fn first_failing(t: &Table) -> Option<usize>
+    requires { Good t.now }
+    ensures { result ≡ found (first_failing t.now) }
+{
+    let mut most = Partitions(0);
+    'tasks: {
+        for k in 0..t.n {
+            most = largest(most, &t.rows[k]);
+            let x = Measures::of(t, k, most);
+            let limit = x.limit();
+            let mut load = 0;
+            for task in first_tasks(t, t.n) {
+                load += x.share(task).share;
+                if limit <= load {
+                    break 'tasks Some(k + 1);
+                }
+            }
+        }
+        None
+    }
+}
+
+// The verdict and the first task that does not pass; or the refusal.
+pub fn quick_answer(t: &Table) -> QuickAnswer
+    ensures { result ≡ quick_answer t.now }
+{
+    match checked(t) {
+        Ok(()) => QuickAnswer::judged(first_failing(t)),
+        Err(refused) => QuickAnswer::refused(refused),
+    }
+}
+
+fn is_task(t: &Table, k: usize) -> bool
+    ensures { result ≡ is_task t.now k }
+{
+    1 <= k && k <= t.n
 }
 
 // What task i + 1 takes of the limit of task k + 1, of a good table.
-fn share_at(t: Table, k: usize, i: usize) -> Share
-    requires { Good t × (k < t.n) × (i < t.n) }
-    ensures { result ≡ share_in t (suc k) (suc i) }
+fn share_at(t: &Table, k: usize, i: usize) -> Share
+    requires { Good t.now × (k < t.now.n) × (i < t.now.n) }
+    ensures { result ≡ share_in t.now (suc k) (suc i) }
 {
-    let most = amax(t, k);
-    let x = measured(t.platform.partitions, most, t.rows[k]);
-    shared(t.platform.cores, x.b, x.s, t.rows[i])
+    let most = amax(t, k + 1);
+    Measures::of(t, k, most).share(&t.rows[i])
 }
 
 // What task i takes of the limit of task k; all 0 where the table is refused or one of them is not a task.
-pub fn share_of(t: Table, k: usize, i: usize) -> Share
-    ensures { result ≡ share_answer t k i }
+pub fn share_of(t: &Table, k: usize, i: usize) -> Share
+    ensures { result ≡ share_answer t.now k i }
 {
-    let refused = t.refused();
-    if refused.number != 0 {
-        return no_share();
+    match checked(t) {
+        Ok(()) if is_task(t, k) && is_task(t, i) => share_at(t, k - 1, i - 1),
+        _ => Share::default(),
     }
-    let n = t.n;
-    if !is_task(n, k) {
-        return no_share();
-    }
-    if !is_task(n, i) {
-        return no_share();
-    }
-    share_at(t, k - 1, i - 1)
 }

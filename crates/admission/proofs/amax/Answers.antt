@@ -1,17 +1,20 @@
-use borrow.Author.Rules.{rules}
-use mathlib.Core.Path.{◌≡◌, sym}
+use Prim.Native.Nat.{◌<◌}
+use mathlib.Core.Path.{sym, ◌∙◌}
 use native.Mathlib.Omega.{arith}
+use lib.Seq.{get_or-take}
+use Rattle.table.specs.Tasks.{no_task}
 use Rattle.admission.proofs.Bounds.{Amax-zero}
 use Rattle.admission.proofs.Laws.{Amax-more}
 use Rattle.admission.proofs.amax.Goals as goal
 
-pub loop-i-init : goal.loop-i-init
-loop-i-init c = (search rules, sym (Amax-zero _))
+pub loop-task-init : goal.loop-task-init
+loop-task-init c = sym (Amax-zero _)
 
-pub loop-i-preserved : goal.loop-i-preserved
-loop-i-preserved c = (search rules, Amax-more _ _ c.loop-i.invariant.1 c.largest-most.ensures)
-
-pub returns : goal.returns
-returns c =
-    let at-end : c.loop-i.i ≡ c.args.k = omega arith in
-    rw at-end at c.loop-i.invariant.1
+pub loop-task-preserved : goal.loop-task-preserved
+loop-task-preserved c =
+    let t = c.args.t.now in
+    let i = c.loop-task.task-index in
+    let tasks = c.first_tasks-task-items.ensures in
+    let l : i < c.args.k = omega (arith, tasks.many, c.loop-task-test.true) in
+    Amax-more t i c.loop-task.invariant
+    (c.largest-most.ensures ∙ rw (tasks.are, get_or-take c.args.k t.rows i no_task l))

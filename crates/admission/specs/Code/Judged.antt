@@ -1,12 +1,30 @@
--- The answers to a table that is not refused, by the first task that does not pass: what the code returns at the end of
--- its loops. No statement rests on these.
-use Rattle.std.specs.Prelude.{ℕ, List, eqb, ℤ}
-use Rattle.table.specs.Refused.{no_refusal}
+-- What the code finds of a table, and the answers by that. No statement rests on these.
+use Rattle.std.specs.Prelude.{◌≡◌, ℕ, zero, suc, true, false, List, ℤ, Option, Some, None}
+use Rattle.table.specs.declared.Table.{Table}
+use Rattle.table.specs.declared.Refusal.{Refusal}
+use Rattle.table.specs.Refused.{no_refusal, refusal}
+use Rattle.table.specs.Good.{Good}
 use Rattle.admission.specs.declared.FullAnswer.{FullAnswer}
 use Rattle.admission.specs.declared.QuickAnswer.{QuickAnswer}
 
-abbrev pub full_judged : ℕ → List ℤ → FullAnswer
-full_judged first margins = record { refused = no_refusal; admitted = eqb first 0; first = first; margins = margins }
+-- what is found of a table before its tasks are judged
+pub record Refused (t : Table) (r : Refusal) : Type 0 where
+  pub is : refusal t ≡ r
+  pub some : r.number ≡ 0 → ⊥
 
-abbrev pub quick_judged : ℕ → QuickAnswer
-quick_judged first = record { refused = no_refusal; admitted = eqb first 0; first = first }
+pub record Unrefused (t : Table) : Type 0 where
+  pub is : refusal t ≡ no_refusal
+  pub good : Good t
+
+-- the task of that number; none of 0
+abbrev pub found : ℕ → Option ℕ
+found zero = None
+found (suc k) = Some (suc k)
+
+-- the quick answer to a table that is not refused, by the first task that does not pass
+abbrev pub judged : Option ℕ → QuickAnswer
+judged None = record { refused = no_refusal; admitted = true; first = 0 }
+judged (Some first) = record { refused = no_refusal; admitted = false; first = first }
+
+abbrev pub with_margins : QuickAnswer → List ℤ → FullAnswer
+with_margins a margins = record { refused = a.refused; admitted = a.admitted; first = a.first; margins = margins }

@@ -1,23 +1,20 @@
--- A share by what was measured of the task whose limit it is, as the code works it out of one row. No statement rests
--- on these.
-use Rattle.std.specs.Prelude.{ℕ, ◌+◌, ◌*◌, ◌≤◌}
+-- A share and a load by what was measured of the task whose limit it is, as the code works them out of the rows. No
+-- statement rests on these.
+use Rattle.std.specs.Prelude.{ℕ, ◌*◌}
 use Rattle.table.specs.declared.Task.{Task}
-use Rattle.table.specs.Limits.{most_cores, most_partitions, longest_period}
-use Rattle.table.specs.Tasks.{A}
-use Rattle.table.specs.Good.{GoodRow}
-use Rattle.lives.specs.Report.{equation3, weight_of}
+use Rattle.table.specs.declared.Table.{Table}
+use Rattle.table.specs.Tasks.{τ, A}
+use Rattle.lives.specs.Report.{equation3, weight_of, load_of}
 use Rattle.admission.specs.declared.Share.{Share}
 use Rattle.admission.specs.Test.{row}
 
--- as M, a row and what is measured of a task are in a good table
-abbrev pub Bounded : (m b s : ℕ) → Task → Type 0
-Bounded m b s τ =
-    (m ≤ most_cores) × (b ≤ most_partitions + 1) × (s ≤ longest_period) × GoodRow most_partitions τ
-
-abbrev pub share_of : (m b s : ℕ) → Task → Share
-share_of m b s τ =
+abbrev pub share_by : (m b s : ℕ) → Task → Share
+share_by m b s τ =
     record {
       interference = equation3 s (row τ);
       weight = weight_of m b (A τ);
       share = weight_of m b (A τ) * equation3 s (row τ);
     }
+
+abbrev pub load_by : (m b s : ℕ) → Table → ℕ
+load_by m b s t = load_of t.n m b (λ i. A (τ t i)) (λ i. equation3 s (row (τ t i)))

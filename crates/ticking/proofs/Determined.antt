@@ -1,10 +1,13 @@
--- Two results that a public function's statement allows are equal.
+-- Two outcomes that a public function's statement allows are equal: its result, and what lies behind a reference that
+-- it was lent.
 use Prim.Native.Nat.{ℕ}
 use mathlib.Core.Path.{◌≡◌}
-use Rattle.maths.proofs.Determined.{determined}
+use Rattle.maths.proofs.Determined.{determined-both}
+use Rattle.machine.specs.declared.Answer.{Answer}
 use Rattle.machine.specs.declared.Machine.{Machine}
-use Rattle.machine.specs.Tick.{Ticked, tick}
+use Rattle.machine.specs.Tick.{tick}
 
-pub tick-determined : (m : Machine) (released finished : ℕ) (r s : Ticked) → r ≡ tick m released finished
-    → s ≡ tick m released finished → r ≡ s
-tick-determined m released finished = determined (tick m released finished)
+pub tick-determined : (x y : ℕ) (m : Machine) (r s : Answer) (a b : Machine)
+    → (r ≡ (tick m x y).answer) × (a ≡ (tick m x y).machine)
+    → (s ≡ (tick m x y).answer) × (b ≡ (tick m x y).machine) → (r ≡ s) × (a ≡ b)
+tick-determined x y m = determined-both (tick m x y).answer (tick m x y).machine

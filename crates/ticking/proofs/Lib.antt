@@ -11,5 +11,4 @@ pub mod TickReady
 pub mod TickWalk
 pub mod TickSteps
 pub mod TickCode
-pub mod TickLoops
 pub mod Determined

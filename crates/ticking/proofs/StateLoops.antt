@@ -1,7 +1,7 @@
 -- What a pass over the jobs of a state knows after i of them.
 use Prim.Native.Nat.{ℕ, suc, ◌+◌, ◌<◌}
 use mathlib.Core.Path.{◌≡◌, refl, sym}
-use mathlib.Core.Bool.{Bool, true, cond, ◌&&◌}
+use mathlib.Core.Bool.{Bool, true, cond}
 use native.Mathlib.Nat.{not-suc-le-zero}
 use native.Mathlib.Numerals.{add-one}
 use borrow.Author.Count.{below_more}
@@ -13,7 +13,7 @@ use Rattle.sets.specs.Families.{union_of, Apart}
 use Rattle.sets.proofs.Unions.{union-none, union_more, apart_none, apart_more}
 use Rattle.machine.specs.declared.Machine.{Machine}
 use Rattle.machine.specs.Jobs.{job, runs, running}
-use Rattle.machine.specs.Conditions.{is_no_task, is_no_job, good_job}
+use Rattle.machine.specs.Conditions.{good_job}
 
 -- of tasks 1 to i: how many run, and what is held
 abbrev pub running_to : Machine → ℕ → ℕ
@@ -25,10 +25,6 @@ held_to m i = union_of i (λ i. (job m (suc i)).held)
 -- task k's conditions
 abbrev pub good_task : Machine → ℕ → Bool
 good_task m k = good_job (P m.table) (τ m.table k) (job m k)
-
--- an entry past n is zero
-abbrev pub zero_entry : Machine → ℕ → Bool
-zero_entry m k = is_no_task (τ m.table k) && is_no_job (job m k)
 
 module _ (m : Machine) where
   pub running_none : 0 ≡ running_to m 0

@@ -1,116 +1,117 @@
--- What the three passes of the code come to is the tick, accepted or refused.
-use Prim.Native.Nat.{ℕ, ◌<◌, ◌≤◌, min}
+-- What the two passes of the code come to is the tick, accepted or refused.
+use Prim.Native.Nat.{ℕ, suc, ◌+◌, ◌<◌}
 use mathlib.Core.Path.{◌≡◌, refl, sym, ◌∙◌, ap}
 use mathlib.Core.Bool.{Bool, true, false, cond}
-use mathlib.Core.List.{List}
+use native.Mathlib.Numerals.{add-one}
 use native.Mathlib.Omega.{arith}
-use lib.ListN.{length}
-use Rattle.maths.proofs.Arrays.{up_to, up_none, tabulate-entry}
+use borrow.Author.Tests.{eqb-true}
+use lib.ListN.{length, set}
+use Rattle.std.specs.Prelude.{Result, Ok, Err}
+use Rattle.maths.proofs.Arrays.{up_none, up_more, up-past, tabulate-entry}
 use Rattle.table.specs.declared.Refusal.{Refusal}
 use Rattle.table.specs.Limits.{most_tasks}
+use Rattle.table.specs.Tasks.{τ}
 use Rattle.machine.specs.declared.Job.{Job}
-use Rattle.ticking.specs.declared.Look.{Look}
 use Rattle.machine.specs.declared.Machine.{Machine}
-use Rattle.machine.specs.Tick.{Ticked}
+use Rattle.ticking.specs.declared.Busy.{Busy}
+use Rattle.ticking.specs.declared.Look.{Look}
+use Rattle.ticking.specs.declared.Turn.{Turn}
 use Rattle.ticking.specs.declared.Walk.{Walk}
-use Rattle.machine.specs.Jobs.{no_job, job}
-use Rattle.machine.specs.Conditions.{good_state}
-use Rattle.machine.specs.Steps.{passed, finish, late_set}
-use Rattle.ticking.specs.Code.Passes.{walk_start}
-use Rattle.machine.specs.Tick.{tick_refusal, readied, moved, started_set, accepted, accepted_tick, refused_tick, tick}
-use Rattle.machine.proofs.Jobs.{machine_of}
-use Rattle.ticking.proofs.TickJudge.{Accepts, accepts}
-use Rattle.ticking.proofs.TickLook.{look_to, Looked}
-use Rattle.ticking.proofs.TickSteps.{moved-is, started_so, late_so}
-use Rattle.ticking.proofs.TickWalk.{walk_to, walk_none}
+use Rattle.machine.specs.Jobs.{no_job, job, running, busy}
+use Rattle.machine.specs.Tick.{tick_refusal, readied, accepted, accepted_tick, refused_tick, tick}
+use Rattle.machine.proofs.Outcomes.{no-refusal}
+use Rattle.ticking.specs.Code.Passes.{InPeriod, refuses, busy_in, judged, turn_of, walk_with}
+use Rattle.ticking.proofs.TickTurns.{good-period}
+use Rattle.ticking.proofs.TickLook.{Looked}
+use Rattle.ticking.proofs.TickJudge.{accepts, unrefused}
+use Rattle.ticking.proofs.TickReady.{ready-is, ready-running, ready-busy}
+use Rattle.ticking.proofs.TickSteps.{turns, machine_to}
+use Rattle.ticking.proofs.TickWalk.{walk_more}
 
 module _ (m : Machine) (released finished : ℕ) where
-  -- the entries of tasks 1 to n, the first pass and the second
-  abbrev pub entries_of : ℕ
-  entries_of = min m.table.n most_tasks
+  pub judged-accepts : (b : Busy) → judged m released finished ≡ Ok b → accepted m released finished ≡ true
+  unfolding judged
+  judged-accepts b e = no-refusal (tick_refusal m released finished) _ b (sym e)
 
-  abbrev pub seen : Look
-  seen = look_to m released finished entries_of
+  pub judged-refuses : (r : Refusal) → judged m released finished ≡ Err r
+      → tick m released finished ≡ refused_tick m r
+  unfolding judged tick
+  judged-refuses r = by (accepted m released finished)
+    where
+      by : (b : Bool)
+          → ◌≡◌ {A = Result Busy Refusal}
+          (cond b (Ok (busy_in (readied m released finished))) (Err (tick_refusal m released finished))) (Err r)
+          → cond b (accepted_tick m released finished) (refused_tick m (tick_refusal m released finished))
+          ≡ refused_tick m r
+      by true e = cc
+      by false e = ap (refused_tick m) cc
 
-  abbrev pub turns_of : ℕ → Walk
-  turns_of = walk_to m released finished (walk_start m.table.platform seen)
+  pub judged-busy : (b : Busy) → judged m released finished ≡ Ok b → b ≡ busy_in (readied m released finished)
+  unfolding judged
+  judged-busy b = by (accepted m released finished)
+    where
+      by : (a : Bool)
+          → ◌≡◌ {A = Result Busy Refusal}
+          (cond a (Ok (busy_in (readied m released finished))) (Err (tick_refusal m released finished))) (Ok b)
+          → b ≡ busy_in (readied m released finished)
+      by true e = cc
+      by false e = cc
 
-  -- the jobs after i turns of the second pass
-  abbrev pub jobs_to : ℕ → List Job
-  jobs_to i = up_to most_tasks (λ k. (turns_of k).job) (job m) i
+  pub tick-accepted : accepted m released finished ≡ true → tick m released finished ≡ accepted_tick m released finished
+  unfolding tick
+  tick-accepted e = rw e
 
-  pub jobs-none : length m.jobs ≡ most_tasks → m.jobs ≡ jobs_to 0
-  jobs-none len = sym (tabulate-entry m.jobs most_tasks no_job len) ∙ up_none most_tasks (λ k. (turns_of k).job) (job m)
+  pub unrefused-is : accepted m released finished ≡ true → tick_refusal m released finished ≡ refuses 0 0
+  unrefused-is e = unrefused m released finished (eqb-true _ 0 e)
 
-  -- what the code returns where it refuses, or where b is true does not
-  abbrev pub coded : Refusal → Bool → Ticked
-  coded refused b =
-      record {
-        machine = record { table = m.table; jobs = jobs_to (cond b entries_of 0) };
-        answer =
-            record {
-              refused = refused;
-              finished = cond b finished 0;
-              late = (turns_of (cond b entries_of 0)).late;
-              started = (turns_of (cond b entries_of 0)).started;
-            };
-      }
+  module _ (rows : length m.table.rows ≡ most_tasks) (yes : accepted m released finished ≡ true) where
+    -- what the first pass hands on of an accepted tick
+    module _ (l : Look) (k : Looked m released finished m.table.n l) where
+      stays-are : l.stays ≡ busy_in (readied m released finished)
+      stays-are =
+          let a = accepts m released finished rows yes in
+          let cores : l.stays.cores.0 ≡ running (readied m released finished) =
+          k.running ∙ ready-running m released finished a ∙ ap running (sym (ready-is m released finished)) in
+          let held : l.stays.held ≡ busy (readied m released finished) =
+          k.holds ∙ ready-busy m released finished a ∙ ap busy (sym (ready-is m released finished)) in
+          λ i. record { cores = record { 0 = cores i }; held = held i }
 
-  module _ (rows : length m.table.rows ≡ most_tasks) where
-    pub coded-is : length m.jobs ≡ most_tasks → (good_state m ≡ true → Looked m released finished m.table.n seen)
-        → coded (tick_refusal m released finished) (accepted m released finished) ≡ tick m released finished
-    unfolding tick
-    coded-is jobs looked = by (accepted m released finished) refl
-      where
-        by : (b : Bool) → accepted m released finished ≡ b
-            → coded (tick_refusal m released finished) b
-            ≡ cond b (accepted_tick m released finished) (refused_tick m (tick_refusal m released finished))
-        by true w =
-            let a = accepts m released finished rows w in
-            let l = looked a.test in
-            let all : entries_of ≡ m.table.n = omega (arith, a.good.table.sizes.few) in
-            let machine : record { table = m.table; jobs = jobs_to entries_of } ≡ moved m released finished =
-            ap (λ (k : ℕ). machine_of m.table (jobs_to k)) all ∙ sym (moved-is m released finished a seen l) in
-            let late : (turns_of entries_of).late ≡ late_set m (finish finished (passed m)) =
-            ap (λ (k : ℕ). (turns_of k).late) all ∙ sym (late_so m released finished a seen l) in
-            let started : (turns_of entries_of).started
-            ≡ started_set (readied m released finished) (moved m released finished) =
-            ap (λ (k : ℕ). (turns_of k).started) all ∙ sym (started_so m released finished a seen l) in
-            λ i.
-            record {
-              machine = machine i;
-              answer = record {
-                refused = tick_refusal m released finished;
-                finished = finished;
-                late = late i;
-                started = started i;
-              };
-            }
-        by false w =
-            let first = sym (walk_none m released finished (walk_start m.table.platform seen)) in
-            let before = sym (jobs-none jobs) in
-            λ i.
-            record {
-              machine = record { table = m.table; jobs = before i };
-              answer =
-                  record {
-                    refused = tick_refusal m released finished;
-                    finished = 0;
-                    late = (first i).late;
-                    started = (first i).started;
-                  };
-            }
+      pub judged-stays : judged m released finished ≡ Ok l.stays
+      unfolding judged
+      judged-stays = rw (yes, stays-are) refl
 
-    -- a job moves only in an accepted tick, and only one of the table
-    pub moves : (i : ℕ) → i < cond (accepted m released finished) entries_of 0
-        → Accepts m released finished × (i < m.table.n)
-    moves i = by (accepted m released finished) refl
-      where
-        by : (b : Bool) → accepted m released finished ≡ b → i < cond b entries_of 0
-            → Accepts m released finished × (i < m.table.n)
-        by true w l = (accepts m released finished rows w, omega arith)
-        by false w l = absurd (omega arith)
+  -- the second pass: its start, and a turn more
+  pub machine-none : length m.jobs ≡ most_tasks → m ≡ machine_to m released finished 0
+  machine-none len =
+      let same = sym (tabulate-entry m.jobs most_tasks no_job len)
+      ∙ up_none most_tasks (λ k. (turns m released finished k).job) (job m) in
+      λ i. record { table = m.table; jobs = same i }
 
-  pub few-turns : (b : Bool) → cond b entries_of 0 ≤ most_tasks
-  few-turns true = omega arith
-  few-turns false = omega arith
+  module _ (i : ℕ) (l : i < most_tasks) where
+    here : job (machine_to m released finished i) (suc i) ≡ job m (suc i)
+    here = up-past most_tasks (λ k. (turns m released finished k).job) (job m) i i no_job (omega arith) l
+
+    pub turn-is : turn_of (machine_to m released finished i) i ≡ turn_of m i
+    turn-is = ap (λ (j : Job). record { k = suc i; task = τ m.table (suc i); job = j }) here
+
+    pub machine-more : (w : Walk) → w ≡ turns m released finished (i + 1)
+        → record { table = m.table; jobs = set (machine_to m released finished i).jobs i w.job }
+        ≡ machine_to m released finished (i + 1)
+    machine-more w e =
+        let more = up_more most_tasks (λ k. (turns m released finished k).job) (job m) i l in
+        let same : set (machine_to m released finished i).jobs i w.job
+        ≡ (machine_to m released finished (i + 1)).jobs = rw (e, add-one i) (rw (add-one i) at more) in
+        λ k. record { table = m.table; jobs = same k }
+
+    -- a job that is to move is a good state's, and its turn is the pass's
+    module _ (h : i < m.table.n) (rows : length m.table.rows ≡ most_tasks)
+        (yes : accepted m released finished ≡ true) where
+      pub turn-period : InPeriod (τ m.table (suc i)) (job m (suc i))
+      turn-period = good-period (accepts m released finished rows yes).good i h
+
+    pub turns-more : (t : Turn) → t ≡ turn_of (machine_to m released finished i) i → (w : Walk)
+        → w ≡ turns m released finished i → (next : Walk)
+        → next ≡ walk_with t.k t.task t.job released finished w → next ≡ turns m released finished (i + 1)
+    turns-more t e w u next n =
+        let here : t ≡ turn_of m i = e ∙ turn-is in
+        n ∙ rw (here, u) (walk_more m released finished _ i)

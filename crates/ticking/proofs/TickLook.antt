@@ -1,47 +1,40 @@
 -- The first pass over the tasks: that it finds good exactly the good states, which refusal it finds, and what it counts
 -- for step 5.
-use Prim.Native.Nat.{ℕ, zero, suc, ◌+◌, ◌<◌, ◌≤◌, zero-le}
+use Prim.Native.Nat.{ℕ, suc, ◌+◌, ◌<◌, ◌≤◌}
 use mathlib.Core.Path.{◌≡◌, refl, sym, ◌∙◌}
-use mathlib.Core.Bool.{Bool, true, false, cond, ◌&&◌, true≢false}
+use mathlib.Core.Bool.{Bool, true, false, cond}
 use native.Mathlib.Nat.{not-suc-le-zero}
 use native.Mathlib.Numerals.{add-one}
 use native.Mathlib.Omega.{arith}
 use borrow.Author.Count.{below_more}
-use borrow.Author.Tests.{eq-eqb, eqb-true}
-use lib.Bits.{bit_and}
-use lib.Dec.{eqb}
+use lib.ListN.{length}
+use Rattle.std.specs.Prelude.{Result, Ok, Err}
 use Rattle.maths.specs.Sums.{Σ}
-use Rattle.maths.proofs.Sums.{Σ-zero, Σ-suc}
-use Rattle.maths.proofs.Tests.{both}
-use Rattle.table.specs.Limits.{most_partitions}
+use Rattle.maths.proofs.Sums.{Σ-zero, Σ-suc, Σ_mono, Σ_const}
+use Rattle.table.specs.Limits.{most_tasks}
 use Rattle.table.specs.Tasks.{P, τ}
-use Rattle.table.specs.Refused.{sizes_refusal, row_refusal}
-use Rattle.table.proofs.Good.{good-sizes}
-use Rattle.sets.specs.Families.{union_of, Apart}
+use Rattle.table.specs.declared.Reason.{Reason}
+use Rattle.table.specs.declared.Reason.TheVariants.{State}
+use Rattle.table.specs.Reasons.{outcome}
+use Rattle.table.specs.Refused.{row_refusal}
+use Rattle.table.proofs.Good.{row-unrefused}
+use Rattle.sets.specs.Families.{union_of}
 use Rattle.sets.specs.TaskSets.{has_task}
 use Rattle.sets.proofs.Unions.{union-none, union_more, apart-less, apart-last}
+use Rattle.ticking.specs.declared.Report.{Report}
 use Rattle.ticking.specs.declared.Look.{Look}
 use Rattle.machine.specs.declared.Machine.{Machine}
 use Rattle.machine.specs.Jobs.{job, runs}
-use Rattle.ticking.specs.Code.Passes.{look_start, look_bad, admits, look_more, look_with}
-use Rattle.ticking.proofs.StateLoops.{good_task, Passed, passed_none, passed-more}
+use Rattle.ticking.specs.Code.Passes.{turn_of, look_start, Fewer, admits, look_more, look_with}
+use Rattle.machine.proofs.StateParts.{GoodState}
+use Rattle.machine.proofs.StateTest.{job-test}
+use Rattle.ticking.proofs.StateLoops.{Passed, passed_none, passed-more}
 use Rattle.ticking.proofs.TickRules.{given_refusal, given_to, given-none, given-more}
-use Rattle.ticking.proofs.TickTurns.{one-le, add_kept, or_kept}
+use Rattle.ticking.proofs.TickTurns.{one-le, add_kept, or_kept, Admitted, admitted, admits-test}
 
 module _ (m : Machine) (released finished : ℕ) where
-  -- after i turns
-  unfoldable pub look_to : ℕ → Look
-  look_to zero = look_start m.table
-  look_to (suc i) = look_with (suc i) (P m.table) (τ m.table (suc i)) (job m (suc i)) released finished (look_to i)
-
-  pub look_none : look_start m.table ≡ look_to 0
-  unfolding look_to
-  look_none = refl
-
-  pub look-more : (i : ℕ) → look_with (i + 1) (P m.table) (τ m.table (suc i)) (job m (suc i)) released finished
-      (look_to i) ≡ look_to (i + 1)
-  unfolding look_to
-  look-more i = rw add-one
+  abbrev report : Report
+  report = record { released = released; finished = finished }
 
   -- of a task that goes on running after step 2, and what it then holds
   abbrev pub kept : ℕ → ℕ
@@ -52,17 +45,15 @@ module _ (m : Machine) (released finished : ℕ) where
 
   -- what a pass knows that has found i tasks good
   pub record Looked (i : ℕ) (l : Look) : Type 0 where
-    pub sizes : sizes_refusal m.table ≡ 0
     pub rows : (j : ℕ) → j < i → row_refusal (P m.table) (τ m.table (suc j)) ≡ 0
-    pub jobs : Passed m i l.held l.running.0
-    pub running : l.stays.0 ≡ Σ i stays
-    pub holds : l.busy ≡ union_of i (λ j. kept (suc j))
-    pub refused : l.refused ≡ given_refusal 0 (given_to m released finished i)
+    pub jobs : Passed m i l.running.held l.running.cores.0
+    pub running : l.stays.cores.0 ≡ Σ i stays
+    pub holds : l.stays.held ≡ union_of i (λ j. kept (suc j))
+    pub refused : l.refused ≡ outcome (given_refusal 0 (given_to m released finished i))
 
-  looked-none : sizes_refusal m.table ≡ 0 → Looked 0 (look_start m.table)
-  looked-none e =
+  pub looked-none : Looked 0 look_start
+  looked-none =
       record {
-        sizes = e;
         rows = λ j l. absurd (not-suc-le-zero l);
         jobs = passed_none m;
         running = sym (Σ-zero stays);
@@ -70,94 +61,70 @@ module _ (m : Machine) (released finished : ℕ) where
         refused = given-none m released finished;
       }
 
+  -- what is asked of the next task
+  abbrev Next : ℕ → Look → Type 0
+  Next i l = Admitted (P m.table) (τ m.table (suc i)) (job m (suc i)) l
+
   abbrev asked : ℕ → Look → Bool
   asked i l = admits (P m.table) (τ m.table (suc i)) (job m (suc i)) l
 
-  abbrev more : ℕ → Look → Look
-  more i l =
-      look_more (suc i) (τ m.table (suc i)) (job m (suc i)) (has_task released (suc i)) (has_task finished (suc i)) l
-
-  -- what is asked of one task more
-  pub record Fits (i : ℕ) (l : Look) : Type 0 where
-    pub row : row_refusal (P m.table) (τ m.table (suc i)) ≡ 0
-    pub good : good_task m (suc i) ≡ true
-    pub apart : bit_and l.held (job m (suc i)).held ≡ 0
-
-  module _ (i : ℕ) (l : Look) where
-    looked-more : Looked i l → Fits i l → Looked (suc i) (more i l)
-    looked-more k f =
-        record {
-          sizes = k.sizes;
+  module _ (i : ℕ) (l : Look) (k : Looked i l) where
+    looked-more : Next i l → Looked (i + 1) (look_more (turn_of m i) report l)
+    looked-more f =
+        rw add-one
+        (record {
           rows = rw (← add-one i) (below_more _ i k.rows f.row);
           jobs = rw (← add-one i) (passed-more m i _ _ _ k.jobs f.good f.apart refl);
           running = add_kept (has_task finished (suc i)) l.stays (job m (suc i))
               ∙ rw k.running (sym (Σ-suc i stays));
-          holds = or_kept (has_task finished (suc i)) _ _ ∙ rw k.holds (sym (union_more (λ j. kept (suc j)) i));
+          holds = or_kept (has_task finished (suc i)) l.stays (job m (suc i))
+              ∙ rw k.holds (sym (union_more (λ j. kept (suc j)) i));
           refused = rw k.refused (given-more m released finished i);
-        }
+        })
 
-    -- the test of it
-    fits_of : asked i l ≡ true → (l.good ≡ true) × Fits i l
-    fits_of e =
-        let all =
-        both (l.good && eqb (row_refusal (P m.table) (τ m.table (suc i))) 0 && good_task m (suc i)) _ e in
-        let one = both (l.good && eqb (row_refusal (P m.table) (τ m.table (suc i))) 0) _ all.0 in
-        let two = both l.good _ one.0 in
-        (two.0, record { row = eqb-true _ _ two.1; good = one.1; apart = eqb-true _ _ all.1 })
-
-    fits-test : l.good ≡ true → Fits i l → asked i l ≡ true
-    fits-test e f = rw (
-      e,
-      eq-eqb (row_refusal (P m.table) (τ m.table (suc i))) 0 f.row,
-      f.good,
-      eq-eqb (bit_and l.held (job m (suc i)).held) 0 f.apart,
-    )
-
-  pub looked : (i : ℕ) → (look_to i).good ≡ true → Looked i (look_to i)
-  unfolding look_to look_with
-  looked zero e = looked-none (eqb-true _ _ e)
-  looked (suc i) e = by (asked i (look_to i)) refl (λ g. looked i g) e
-    where
-      by : (b : Bool) → asked i (look_to i) ≡ b → ((look_to i).good ≡ true → Looked i (look_to i))
-          → (cond b (more i (look_to i)) (look_bad (look_to i))).good ≡ true
-          → Looked (suc i) (cond b (more i (look_to i)) (look_bad (look_to i)))
-      by true w r g =
-          let f = fits_of i (look_to i) w in
-          looked-more i (look_to i) (r f.0) f.1
-      by false w r g = absurd (true≢false (sym g))
-
-  -- and that all is good is enough
-  module _ (sizes : sizes_refusal m.table ≡ 0) (n : ℕ)
-      (rows : (j : ℕ) → j < n → row_refusal (P m.table) (τ m.table (suc j)) ≡ 0)
-      (good : (j : ℕ) → j < n → good_task m (suc j) ≡ true)
-      (apart : Apart n (λ i. (job m (suc i)).held)) where
-    pub looks_good : (i : ℕ) → i ≤ n → (look_to i).good ≡ true
-    unfolding look_to look_with
-    looks_good zero l = eq-eqb _ _ sizes
-    looks_good (suc i) l =
-        let g : (look_to i).good ≡ true = looks_good i (omega arith) in
-        let free : bit_and (look_to i).held (job m (suc i)).held ≡ 0 =
-        rw (looked i g).jobs.union (apart-last held i (apart-less held (suc i) n l apart)) in
-        rw (fits-test i (look_to i) g (record { row = rows i l; good = good i l; apart = free }))
+    -- the turn went on
+    pub looked-on : (next : Look) → Ok next ≡ look_with (P m.table) (turn_of m i) report l → Looked (i + 1) next
+    unfolding look_with
+    looked-on next = by (asked i l) refl
       where
-        held : ℕ → ℕ
-        held i = (job m (suc i)).held
+        by : (b : Bool) → asked i l ≡ b
+            → ◌≡◌ {A = Result Look Reason} (Ok next) (cond b (Ok (look_more (turn_of m i) report l)) (Err State))
+            → Looked (i + 1) next
+        by true w e =
+            let same : next ≡ look_more (turn_of m i) report l = cc in
+            rw same (looked-more (admitted _ _ _ l w))
+        by false w e = cc
 
-  -- what the next turn requires
-  pub look-partitions : (i : ℕ) → (look_to i).good ≡ true → P m.table ≤ most_partitions
-  look-partitions i e = (good-sizes m.table (looked i e).sizes).partitions
+    -- or it ended the pass
+    pub looked-out : (why : Reason) → Err why ≡ look_with (P m.table) (turn_of m i) report l
+        → (why ≡ State) × (asked i l ≡ false)
+    unfolding look_with
+    looked-out why = by (asked i l)
+      where
+        by : (b : Bool)
+            → ◌≡◌ {A = Result Look Reason} (Err why) (cond b (Ok (look_more (turn_of m i) report l)) (Err State))
+            → (why ≡ State) × (b ≡ false)
+        by true e = cc
+        by false e = (cc, refl)
 
-  pub look-small : (i : ℕ) → ((look_to i).running.0 ≤ i) × ((look_to i).stays.0 ≤ i)
-  unfolding look_to look_with
-  look-small zero = (zero-le, zero-le)
-  look-small (suc i) = by (asked i (look_to i)) (has_task finished (suc i)) (one-le (runs m (suc i))) (look-small i)
-    where
-      next : Bool → Bool → Look
-      next b f = cond b (look_more (suc i) (τ m.table (suc i)) (job m (suc i)) (has_task released (suc i)) f
-          (look_to i)) (look_bad (look_to i))
+    -- all tasks of a good state are admitted
+    pub looks_good : GoodState m → length m.table.rows ≡ most_tasks → i < m.table.n → asked i l ≡ true
+    looks_good g len h =
+        let held : ℕ → ℕ = λ i. (job m (suc i)).held in
+        admits-test _ _ _ l
+        (record {
+          row = row-unrefused m.table len g.unrefused i h;
+          good = job-test _ _ _ (g.each i h);
+          apart = rw k.jobs.union (apart-last held i (apart-less held (suc i) m.table.n h g.apart));
+        })
 
-      by : (b f : Bool) → cond (runs m (suc i)) 1 0 ≤ 1 → ((look_to i).running.0 ≤ i) × ((look_to i).stays.0 ≤ i)
-          → ((next b f).running.0 ≤ suc i) × ((next b f).stays.0 ≤ suc i)
-      by true true o r = (omega arith, omega arith)
-      by true false o r = (omega arith, omega arith)
-      by false f o r = (omega arith, omega arith)
+    -- few tasks are found in few turns
+    pub look-fewer : i < most_tasks → Fewer l
+    look-fewer h =
+        let running = Σ_mono i (λ k. cond (runs m k) 1 0) (λ k. 1) (λ k _ _. one-le (runs m k)) in
+        let stay = Σ_mono i stays (λ k. 1) (λ k _ _. kept_le (has_task finished k) (runs m k)) in
+        (omega (arith, k.jobs.runs, running, Σ_const i 1), omega (arith, k.running, stay, Σ_const i 1))
+      where
+        kept_le : (f r : Bool) → cond f 0 (cond r 1 0) ≤ 1
+        kept_le true r = omega arith
+        kept_le false r = one-le r

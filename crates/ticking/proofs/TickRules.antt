@@ -9,12 +9,14 @@ use native.Mathlib.Decide.{dec_lt}
 use borrow.Author.Tests.{lt-ltb, le-ltb, ne_eqb, eqb-true}
 use lib.Bits.{bit_or}
 use lib.Dec.{ltb, eqb}
+use Rattle.std.specs.Prelude.{Ok}
 use Rattle.maths.specs.Tasks.{lowest, or_else}
 use Rattle.maths.proofs.Tasks.{lowest-ext, lowest_empty, lowest_beyond, lowest-none, lowest-past, lowest-found}
 use Rattle.maths.proofs.Tasks.{lowest-stays}
 use Rattle.table.specs.declared.Refusal.{Refusal}
 use Rattle.table.specs.Limits.{most_tasks}
 use Rattle.table.specs.Tasks.{τ, T, C}
+use Rattle.table.specs.Reasons.{outcome}
 use Rattle.sets.specs.TaskSets.{has_task}
 use Rattle.sets.proofs.Wheres.{task_or, task-above}
 use Rattle.machine.specs.declared.Machine.{Machine}
@@ -92,10 +94,10 @@ some : (n : ℕ) → eqb (suc n) 0 ≡ false
 some n = ne_eqb (suc n) 0 (λ e. absurd (omega arith))
 
 first_more : (k a b c d : ℕ) (w x y z : Bool)
-    → first_of (given_refusal 0 (given_of a b c d)) (numbered w x y z) (suc k)
-    ≡ given_refusal 0 (given_of (or_else a (cond w (suc k) 0)) (or_else b (cond x (suc k) 0))
+    → first_of (outcome (given_refusal 0 (given_of a b c d))) (numbered w x y z) (suc k)
+    ≡ outcome (given_refusal 0 (given_of (or_else a (cond w (suc k) 0)) (or_else b (cond x (suc k) 0))
     (or_else c (cond y (suc k) 0))
-    (or_else d (cond z (suc k) 0)))
+    (or_else d (cond z (suc k) 0))))
 unfolding given_refusal
 first_more k (suc a) b c d true x y z = simp some
 first_more k (suc a) b c d false true y z = simp some
@@ -124,14 +126,14 @@ first_more k zero zero zero zero false false false true = simp some
 first_more k zero zero zero zero false false false false = refl
 
 module _ (m : Machine) (released finished : ℕ) where
-  pub given-none : refuses 0 0 ≡ given_refusal 0 (given_to m released finished 0)
+  pub given-none : Ok tt ≡ outcome (given_refusal 0 (given_to m released finished 0))
   unfolding given_refusal given_to lowest
   given-none = refl
 
   pub given-more : (k : ℕ)
-      → first_of (given_refusal 0 (given_to m released finished k))
+      → first_of (outcome (given_refusal 0 (given_to m released finished k)))
       (given_number (τ m.table (suc k)) (job m (suc k)) (has_task released (suc k)) (has_task finished (suc k))) (suc k)
-      ≡ given_refusal 0 (given_to m released finished (suc k))
+      ≡ outcome (given_refusal 0 (given_to m released finished (suc k)))
   unfolding given_to lowest
   given-more k =
       let g = given_to m released finished k in

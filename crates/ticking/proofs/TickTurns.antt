@@ -2,31 +2,33 @@
 use Prim.Native.Nat.{ℕ, suc, ◌+◌, ◌/◌, ◌^◌, ◌<◌, ◌≤◌, min}
 use mathlib.Core.Path.{◌≡◌, refl, sym, ◌∙◌, ap}
 use mathlib.Core.Bool.{Bool, true, false, cond, ◌&&◌, and_assoc, and-false}
-use native.Mathlib.Nat.{div-eq_of_lt, div-lt_iff_lt-mul}
+use native.Mathlib.Nat.{div-eq_of_lt, div-lt_iff_lt-mul, mod-eq_of_lt, lt_of_lt_of_le}
 use native.Mathlib.Omega.{arith}
-use native.Mathlib.Decide.{ℕ_discrete, dec_lt}
+use native.Mathlib.Decide.{ℕ_discrete, dec_lt, dec_le}
 use borrow.Author.Tests.{eq-eqb, ne_eqb, eqb-true, lt-ltb, le-ltb}
-use lib.Bits.{bit_or, or_zero_l, or_zero_r, or_add_and, and_le_r}
+use lib.Bits.{bit_and, bit_or, or_zero_l, or_zero_r, or_add_and, and_le_r, and_mask}
 use lib.Dec.{ltb, eqb}
-use lib.Pow.{pow_pos}
+use lib.Pow.{pow_pos, pow_mono}
 use Rattle.maths.proofs.Tests.{both}
-use Rattle.table.specs.declared.Cores.{Cores}
 use Rattle.table.specs.declared.Task.{Task}
 use Rattle.table.specs.Good.{GoodRow}
 use Rattle.table.specs.Limits.{longest_period}
 use Rattle.table.specs.Tasks.{τ, D, T, C, A}
 use Rattle.table.specs.Refused.{row_refusal}
+use Rattle.sets.specs.Sets.{below, without}
 use Rattle.table.proofs.Good.{good-row}
 use Rattle.machine.specs.declared.Stage.{Stage}
 use Rattle.machine.specs.declared.Job.{Job}
+use Rattle.ticking.specs.declared.Busy.{Busy}
 use Rattle.ticking.specs.declared.Look.{Look}
 use Rattle.machine.specs.declared.Machine.{Machine}
 use Rattle.ticking.specs.declared.Past.{Past}
 use Rattle.machine.specs.Jobs.{is_idle, is_waiting, is_running, job}
 use Rattle.machine.specs.Conditions.{is_no_task, is_no_job, has_nothing, idles_well, runs_well, good_stage, good_job}
 use Rattle.machine.specs.Code.Readied.{finished_job}
-use Rattle.ticking.specs.Code.Passes.{or_task, or_job, past_with, past_none, admits, cores_and}
-use Rattle.machine.proofs.StateParts.{waiting-is, running-is, ByStage, is-idle, is-waiting, is-running, GoodState}
+use Rattle.ticking.specs.Code.Passes.{InPeriod, or_task, or_job, past_with, past_none, admits, busy_and}
+use Rattle.machine.proofs.StateParts.{waiting-is, running-is, ByStage, is-idle, is-waiting, is-running, GoodJob, GoodState}
+use Rattle.machine.proofs.StateParts.{when_not_running}
 use Rattle.machine.proofs.StateTest.{job_good}
 
 pub one-le : (b : Bool) → cond b 1 0 ≤ 1
@@ -37,15 +39,16 @@ pub ran_on : (b : Bool) (x : ℕ) → x + cond b 1 0 ≡ cond b (x + 1) x
 ran_on true x = refl
 ran_on false x = omega arith
 
--- what is put to a count or a set where the job is not finished
-pub add_kept : (f : Bool) (x : Cores) (j : Job)
-    → (cond f x (cores_and x j)).0 ≡ x.0 + cond f 0 (cond (is_running j.stage) 1 0)
-add_kept true x j = omega arith
-add_kept false x j = refl
+-- what is put to a count and a set where the job is not finished
+pub add_kept : (f : Bool) (b : Busy) (j : Job)
+    → (cond f b (busy_and b j)).cores.0 ≡ b.cores.0 + cond f 0 (cond (is_running j.stage) 1 0)
+add_kept true b j = omega arith
+add_kept false b j = refl
 
-pub or_kept : (f : Bool) (x y : ℕ) → cond f x (bit_or x y) ≡ bit_or x (cond f 0 y)
-or_kept true x y = sym (or_zero_r x)
-or_kept false x y = refl
+pub or_kept : (f : Bool) (b : Busy) (j : Job)
+    → (cond f b (busy_and b j)).held ≡ bit_or b.held (cond f 0 j.held)
+or_kept true b j = sym (or_zero_r b.held)
+or_kept false b j = refl
 
 -- a union is empty where both are
 pub or_none : (x y : ℕ) → eqb (bit_or x y) 0 ≡ (eqb x 0 && eqb y 0)
@@ -64,6 +67,19 @@ none_from x n =
           rw (le-ltb x (2 ^ n) (omega arith))
           (ne_eqb (x / 2 ^ n) 0
           (λ z. h (omega (arith, (div-lt_iff_lt-mul {k = 2 ^ n} {x = x} {y = 1} (pow_pos n)).0 (omega arith)))))
+    ]
+
+lt_below : (x p : ℕ) → x < 2 ^ p → without x (below p) ≡ 0
+lt_below x p h = rw (and_mask x p, mod-eq_of_lt h) (omega arith)
+
+-- a set of 64 partitions at most is within every cache of 64 or more
+pub below-wide : (x p : ℕ) → x < 2 ^ 64 → without x (below (min p 64)) ≡ without x (below p)
+below-wide x p h =
+    elim (dec_le p 64) [
+      | yes l ↦ let e : min p 64 ≡ p = omega arith in rw e
+      | no l ↦
+          let e : min p 64 ≡ 64 = omega arith in
+          rw (e, lt_below x 64 h, lt_below x p (lt_of_lt_of_le h (pow_mono {i = 64} (omega arith))))
     ]
 
 -- the marks of an entry
@@ -132,12 +148,35 @@ ran_of τ j r s (is-idle q g) = omega arith
 ran_of τ j r s (is-waiting q g) = omega arith
 ran_of τ j r s (is-running q g) = omega arith
 
-pub admitted-ran : (p : ℕ) (τ : Task) (j : Job) (l : Look) → admits p τ j l ≡ true → j.ran ≤ longest_period
-admitted-ran p τ j l e =
-    let all = both (l.good && eqb (row_refusal p τ) 0 && good_job p τ j) _ e in
-    let good = both (l.good && eqb (row_refusal p τ) 0) _ all.0 in
-    ran_of τ j (good-row p τ (eqb-true _ _ (both l.good _ good.0).1)) j.stage
-    (job_good p τ j good.1).stage
+in_period : {p : ℕ} (τ : Task) (j : Job) → GoodRow p τ → GoodJob p τ j → InPeriod τ j
+in_period τ j r g = (omega (arith, g.age), ran_of τ j r j.stage g.stage, r.deadline)
+
+-- what is asked of a task that the first pass admits
+pub record Admitted (p : ℕ) (τ : Task) (j : Job) (l : Look) : Type 0 where
+  pub row : row_refusal p τ ≡ 0
+  pub good : good_job p τ j ≡ true
+  pub apart : bit_and l.running.held j.held ≡ 0
+
+module _ (p : ℕ) (τ : Task) (j : Job) (l : Look) where
+  pub admitted : admits p τ j l ≡ true → Admitted p τ j l
+  admitted e =
+      let all = both (eqb (row_refusal p τ) 0 && good_job p τ j) _ e in
+      let one = both (eqb (row_refusal p τ) 0) _ all.0 in
+      record { row = eqb-true _ _ one.0; good = one.1; apart = eqb-true _ _ all.1 }
+
+  pub admits-test : Admitted p τ j l → admits p τ j l ≡ true
+  admits-test a = rw (
+    eq-eqb (row_refusal p τ) 0 a.row,
+    a.good,
+    eq-eqb (bit_and l.running.held j.held) 0 a.apart,
+  )
+
+  module _ (a : Admitted p τ j l) where
+    pub admitted-period : InPeriod τ j
+    admitted-period = in_period τ j (good-row p τ a.row) (job_good p τ j a.good)
+
+    pub admitted-none : is_running j.stage ≡ false → j.held ≡ 0
+    admitted-none n = (when_not_running (job_good p τ j a.good) n).none
 
 -- an age that rises by 1, held at t, is d where it rose to d, if d is not above t
 pub rose : (a d t : ℕ) → d ≤ t → eqb (a + 1) d ≡ (eqb (a + 1) d && eqb (min (a + 1) t) d)
@@ -151,13 +190,6 @@ pub finished-age : (τ : Task) (finished : Bool) (j : Job) → (finished_job τ 
 finished-age τ true j = refl
 finished-age τ false j = refl
 
-module _ {m : Machine} (g : GoodState m) (i : ℕ) (l : i < m.table.n) where
-  pub good-ran : (job m (suc i)).ran ≤ longest_period
-  good-ran =
-      ran_of (τ m.table (suc i)) (job m (suc i)) (g.table.row i l) (job m (suc i)).stage (g.each i l).stage
-
-  pub good-age : (job m (suc i)).age ≤ longest_period
-  good-age = let a = (g.each i l).age in let r = g.table.row i l in omega arith
-
-  pub good-deadline : D (τ m.table (suc i)) ≤ T (τ m.table (suc i))
-  good-deadline = (g.table.row i l).deadline
+pub good-period : {m : Machine} → GoodState m → (i : ℕ) → i < m.table.n
+    → InPeriod (τ m.table (suc i)) (job m (suc i))
+good-period {m} g i l = in_period (τ m.table (suc i)) (job m (suc i)) (g.table.row i l) (g.each i l)

@@ -38,7 +38,7 @@ module _ (m : Machine) (released finished : ℕ) (first : Walk) where
   walk_none = refl
 
   pub walk_more : (i : ℕ)
-      → walk_with (i + 1) (τ m.table (suc i)) (job m (suc i)) released finished (walk_to i) ≡ walk_to (i + 1)
+      → walk_with (suc i) (τ m.table (suc i)) (job m (suc i)) released finished (walk_to i) ≡ walk_to (i + 1)
   unfolding walk_to
   walk_more i = rw add-one
 

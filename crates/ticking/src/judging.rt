@@ -1,133 +1,98 @@
 // The first pass of a tick: it judges the lent state and the two sets task by task, and changes nothing.
-ghost use Rattle.std.specs.Prelude.{◌≡◌, true, false, ◌&&◌, ◌<◌, ◌≤◌, eqb};
-ghost use Rattle.table.specs.Limits.{most_tasks, most_partitions, longest_period};
+ghost use Rattle.std.specs.Prelude.{◌≡◌, ◌<◌, ◌≤◌, true, false};
+ghost use Rattle.table.specs.Limits.{most_tasks};
 ghost use Rattle.machine.specs.Jobs.{is_running};
-ghost use Rattle.ticking.specs.Code.Passes.{look_start, look_bad, admits, look_more, look_with, past_start, past_with};
-ghost use Rattle.ticking.specs.Code.Passes.{past_none, found_good, found_refusal};
+ghost use Rattle.ticking.specs.Code.Passes.{InPeriod, Fewer, busy_none, busy_and, look_start, admits, look_more};
+ghost use Rattle.ticking.specs.Code.Passes.{look_with, past_start, past_with, past_none, zero_to, judged};
 
-use crate::jobs::{good_job, is_left};
-use crate::refusing::{first_above, first_of, number_of, refusal};
-use crate::{Look, Past};
-use machine::{Job, Stage};
-use table::{Cores, Partitions, Refusal, Table, Task};
+use crate::jobs::full_lists;
+use crate::refusing::first_of;
+use crate::{Busy, Look, Past, Report, Turn};
+use machine::{Job, Machine, Stage};
+use table::{Cores, Partitions, Reason, Refusal, Table, Task};
+
+impl Busy {
+    fn none() -> Busy
+        ensures { result ≡ busy_none }
+    {
+        Busy {
+            cores: Cores(0),
+            held: 0,
+        }
+    }
+
+    // A running job more.
+    fn and(self, j: Job) -> Busy
+        requires few { self.cores.0 < most_tasks }
+        requires runs { is_running j.stage ≡ true }
+        ensures { result ≡ busy_and self j }
+    {
+        Busy {
+            cores: Cores(self.cores.0 + 1),
+            held: self.held | j.held,
+        }
+    }
+}
 
 impl Look {
-    pub(crate) fn start(t: Table) -> Look
-        ensures { result ≡ look_start t }
+    fn start() -> Look
+        ensures { result ≡ look_start }
     {
-        let number = t.sizes_refused();
         Look {
-            good: number == 0,
-            refused: refusal(0, 0),
-            running: Cores(0),
-            held: 0,
-            stays: Cores(0),
-            busy: 0,
+            refused: Ok(()),
+            running: Busy::none(),
+            stays: Busy::none(),
         }
     }
 
-    fn bad(self) -> Look
-        ensures { result ≡ look_bad self }
+    // The row and the job of this task are good, and it holds nothing that those before hold.
+    fn admits(self, turn: Turn, p: Partitions) -> bool
+        ensures { result ≡ admits p.0 turn.task turn.job self }
     {
-        let mut look = self;
-        look.good = false;
-        look
-    }
-
-    // The state so far is good, and the row and the job of this task are, and it holds nothing that those before hold.
-    fn admits(self, p: Partitions, task: Task, j: Job) -> bool
-        requires { self.good ≡ true → p.0 ≤ most_partitions }
-        ensures { result ≡ admits p.0 task j self }
-    {
-        if !self.good {
-            return false;
-        }
-        if task.refused(p) != 0 {
-            return false;
-        }
-        if !good_job(j, p, task) {
-            return false;
-        }
-        self.held & j.held == 0
+        turn.task.check(p).is_ok() && turn.is_good(p) && self.running.held & turn.job.held == 0
     }
 
     // A good task more.
-    fn more(self, k: usize, task: Task, j: Job, released: bool, finished: bool) -> Look
-        requires { (self.running.0 < most_tasks) × (self.stays.0 < most_tasks) × (j.ran ≤ longest_period)
-            × (is_running j.stage ≡ false → j.held ≡ 0) }
-        ensures { result ≡ look_more k task j released finished self }
+    fn more(self, turn: Turn, report: Report) -> Look
+        requires few { Fewer self }
+        requires period { InPeriod turn.task turn.job }
+        requires holds { is_running turn.job.stage ≡ false → turn.job.held ≡ 0 }
+        ensures { result ≡ look_more turn report self }
     {
-        let number = number_of(task, j, released, finished);
-        let refused = first_of(self.refused, number, k);
-        let mut look = self;
-        look.good = true;
-        look.refused = refused;
-        if !j.stage.is_running() {
-            return look;
+        let finished = report.finishes(turn.k);
+        let found = turn.check(report.releases(turn.k), finished);
+        let refused = first_of(self.refused, found, turn.k);
+        if !turn.job.stage.is_running() {
+            return Look { refused, ..self };
         }
-        let running = Cores(self.running.0 + 1);
-        look.running = running;
-        look.held = self.held | j.held;
-        if finished {
-            return look;
+        Look {
+            refused,
+            running: self.running.and(turn.job),
+            stays: if finished {
+                self.stays
+            } else {
+                self.stays.and(turn.job)
+            },
         }
-        let stays = Cores(self.stays.0 + 1);
-        look.stays = stays;
-        look.busy = self.busy | j.held;
-        look
     }
 
-    // Refusal 14 is not given, where `past` is 0 if the entries past n are.
-    fn finds_good(self, past: u64, cores: Cores) -> bool
-        ensures { result ≡ found_good self past cores }
+    // A task more. A state that is not good is not looked at further.
+    fn with(self, turn: Turn, p: Partitions, report: Report) -> Result<Look, Reason>
+        requires { Fewer self }
+        ensures { result ≡ look_with p.0 turn report self }
     {
-        if !self.good {
-            return false;
+        if !self.admits(turn, p) {
+            return Err(Reason::State);
         }
-        if past != 0 {
-            return false;
+        if turn.is_left(report) {
+            return Ok(self);
         }
-        self.running.0 <= cores.0
+        Ok(self.more(turn, report))
     }
-
-    // Task k more.
-    pub(crate) fn with(
-        self,
-        k: usize,
-        p: Partitions,
-        task: Task,
-        j: Job,
-        released: u32,
-        finished: u32,
-    ) -> Look
-        requires { (self.good ≡ true → p.0 ≤ most_partitions) × (self.running.0 < most_tasks)
-            × (self.stays.0 < most_tasks) }
-        ensures { result ≡ look_with k p.0 task j released finished self }
-    {
-        if !self.admits(p, task, j) {
-            return self.bad();
-        }
-        if is_left(j, released | finished, k) {
-            return self;
-        }
-        self.more(
-            k,
-            task,
-            j,
-            sets::has_task(released, k),
-            sets::has_task(finished, k),
-        )
-    }
-}
-
-fn wide(x: u32) -> u64
-    ensures { result ≡ x }
-{
-    x as u64
 }
 
 impl Past {
-    pub(crate) fn start() -> Past
+    fn start() -> Past
         ensures { result ≡ past_start }
     {
         Past {
@@ -137,7 +102,7 @@ impl Past {
     }
 
     // An entry more.
-    pub(crate) fn with(self, task: Task, j: Job) -> Past
+    fn with(self, task: Task, j: Job) -> Past
         ensures { result ≡ past_with task j self }
     {
         Past {
@@ -156,27 +121,47 @@ impl Past {
         }
     }
 
-    // 0 exactly where all of them are zero.
-    pub(crate) fn marks(self) -> u64
-        ensures { eqb result 0 ≡ past_none self }
+    // All entries that were put together are zero.
+    fn is_none(self) -> bool
+        ensures { result ≡ past_none self }
     {
         let job = self.job.stage.0 | self.job.age | self.job.ran;
-        wide(self.row.d | self.row.t | self.row.c | self.row.a.0 | job) | self.job.held
+        let row = self.row.d | self.row.t | self.row.c | self.row.a.0;
+        u64::from(row | job) | self.job.held == 0
     }
 }
 
-// The refusal of a tick by what the first pass found, where `named` has the tasks of both sets.
-pub(crate) fn refusal_of(look: Look, past: u64, cores: Cores, n: usize, named: u32) -> Refusal
-    requires { found_good look past cores ≡ true → n ≤ most_tasks }
-    ensures { result ≡ found_refusal look past cores n named }
+// The entries past n are zero: they are put together first, and asked once.
+fn rest_is_zero(m: &Machine) -> bool
+    requires { m.now.table.n ≤ most_tasks }
+    ensures { result ≡ zero_to m.now most_tasks }
 {
-    if !look.finds_good(past, cores) {
-        return refusal(14, 0);
+    let mut past = Past::start();
+    for i in m.table.n..Table::MOST {
+        past = past.with(m.table.rows[i], m.jobs[i]);
     }
-    let nine = first_above(named, n);
-    if nine != 0 {
-        return refusal(9, nine);
+    past.is_none()
+}
+
+// What those jobs have that go on running after step 2, or the refusal of the tick.
+pub(crate) fn judge(m: &Machine, report: Report) -> Result<Busy, Refusal>
+    ensures { result ≡ judged m.now report.released report.finished }
+{
+    full_lists(m);
+    if m.table.check_sizes().is_err() {
+        return Err(Refusal::from(Reason::State));
     }
-    let refused = look.refused;
-    refused
+    let platform = m.table.platform;
+    let mut look = Look::start();
+    for i in 0..m.table.n {
+        look = look.with(Turn::of(m, i), platform.partitions, report)?;
+    }
+    if platform.cores.0 < look.running.cores.0 || !rest_is_zero(m) {
+        return Err(Refusal::from(Reason::State));
+    }
+    if let Some(k) = report.first_above(m.table.n) {
+        return Err(Refusal::new(Reason::Task, k));
+    }
+    look.refused?;
+    Ok(look.stays)
 }

@@ -1,7 +1,10 @@
-// One tick under blocking FP_CA, by value, in two passes over the tasks: the first judges and the second moves.
+// One tick under blocking FP_CA, in the machine's place and in two passes over the tasks: the first judges, the second
+// moves the jobs.
 #![tactic(auto)]
 
-ghost use Rattle.std.specs.Prelude.{◌≡◌, cond, eqb};
+ghost use Rattle.std.specs.Prelude.{◌≡◌};
+ghost use Rattle.std.specs.Int.Bits.{bit_or};
+ghost use Rattle.sets.specs.TaskSets.{has_task};
 ghost use Rattle.machine.specs.Tick.{tick};
 
 mod jobs;
@@ -9,20 +12,40 @@ mod judging;
 mod moving;
 mod refusing;
 
-use crate::judging::refusal_of;
-use machine::{Answer, Job, Machine, Ticked};
-use table::{Cores, Partitions, Refusal, Table, Task};
+use crate::judging::judge;
+use crate::moving::move_jobs;
+use machine::{Answer, Job, Machine};
+use table::{Cores, Partitions, Refusal, Task};
 
-// What a tick's first pass found so far: the state is good; the first of refusals 10 to 13; the cores that running jobs
-// have and the partitions that they hold, and those of the jobs that go on running after step 2.
+// What a tick is brought: the tasks that are released and those that finished.
+#[derive(Clone, Copy)]
+struct Report {
+    released: u32,
+    finished: u32,
+}
+
+// A task at its turn: its number, its row and its job.
+#[derive(Clone, Copy)]
+struct Turn {
+    k: usize,
+    task: Task,
+    job: Job,
+}
+
+// The cores that running jobs have, and the partitions that they hold.
+#[derive(Clone, Copy)]
+struct Busy {
+    cores: Cores,
+    held: u64,
+}
+
+// What a tick's first pass found so far: the first of refusals 10 to 13, what running jobs have, and what those have
+// that go on running after step 2.
 #[derive(Clone, Copy)]
 struct Look {
-    good: bool,
-    refused: Refusal,
-    running: Cores,
-    held: u64,
-    stays: Cores,
-    busy: u64,
+    refused: Result<(), Refusal>,
+    running: Busy,
+    stays: Busy,
 }
 
 // What the entries past n have, put together: a zero row and a zero job where all are.
@@ -45,65 +68,48 @@ pub struct Walk {
     started: u32,
 }
 
-// x where the tick is not refused, and 0 where it is.
-fn accepted_tasks(refused: Refusal, n: usize) -> usize
-    ensures { result ≡ cond (eqb refused.number 0) n 0 }
-{
-    if refused.number == 0 { n } else { 0 }
+impl Report {
+    fn releases(self, k: usize) -> bool
+        ensures { result ≡ has_task self.released k }
+    {
+        sets::has_task(self.released, k)
+    }
+
+    fn finishes(self, k: usize) -> bool
+        ensures { result ≡ has_task self.finished k }
+    {
+        sets::has_task(self.finished, k)
+    }
+
+    // One of the sets names task k.
+    fn names(self, k: usize) -> bool
+        ensures { result ≡ has_task (bit_or self.released self.finished) k }
+    {
+        sets::has_task(self.released | self.finished, k)
+    }
 }
 
-fn accepted_set(refused: Refusal, x: u32) -> u32
-    ensures { result ≡ cond (eqb refused.number 0) x 0 }
+// One tick of the machine: a refused one leaves it as it was.
+pub fn tick(m: &mut Machine, released: u32, finished: u32) -> Answer
+    ensures answer { result ≡ (tick m.old released finished).answer }
+    ensures machine { m.new ≡ (tick m.old released finished).machine }
 {
-    if refused.number == 0 { x } else { 0 }
-}
-
-// A function that reads an array of records by index first copies the array, so the passes over the tasks stand in one.
-pub fn tick(m: Machine, released: u32, finished: u32) -> Ticked
-    ensures { result ≡ tick m released finished }
-{
-    let t = m.table;
-    let mut jobs = m.jobs;
-    let n = Table::entries(t.n);
-    let mut look = Look::start(t);
-    let mut k: usize = 0;
-    while k < n {
-        look = look.with(
-            k + 1,
-            t.platform.partitions,
-            t.rows[k],
-            jobs[k],
-            released,
-            finished,
-        );
-        k += 1;
-    }
-    let mut past = Past::start();
-    while k < Table::MOST {
-        past = past.with(t.rows[k], jobs[k]);
-        k += 1;
-    }
-    let marks = past.marks();
-    let refused = refusal_of(look, marks, t.platform.cores, t.n, released | finished);
-    let moved = accepted_tasks(refused, n);
-    let mut walk = Walk::start(t.platform, look);
-    let mut i: usize = 0;
-    while i < moved {
-        walk = walk.with(i + 1, t.rows[i], jobs[i], released, finished);
-        let job = walk.job;
-        jobs[i] = job;
-        i += 1;
-    }
-    Ticked {
-        machine: Machine {
-            table: t,
-            jobs: jobs,
+    let report = Report { released, finished };
+    match judge(m, report) {
+        Err(refused) => Answer {
+            refused,
+            finished: 0,
+            late: 0,
+            started: 0,
         },
-        answer: Answer {
-            refused: refused,
-            finished: accepted_set(refused, finished),
-            late: walk.late,
-            started: walk.started,
-        },
+        Ok(busy) => {
+            let walk = move_jobs(m, report, busy);
+            Answer {
+                refused: Refusal { number: 0, row: 0 },
+                finished,
+                late: walk.late,
+                started: walk.started,
+            }
+        }
     }
 }

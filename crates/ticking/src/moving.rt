@@ -1,60 +1,59 @@
 // The second pass of a tick: it takes each task through steps 1 to 5.
-ghost use Rattle.std.specs.Prelude.{◌≡◌, true, cond, ◌+◌, ◌≤◌, min};
-ghost use Rattle.table.specs.Limits.{longest_period};
-ghost use Rattle.table.specs.Tasks.{D, T};
-ghost use Rattle.machine.specs.Jobs.{is_running};
-ghost use Rattle.machine.specs.Steps.{older, awaiting};
+ghost use Rattle.std.specs.Prelude.{◌≡◌, cond, ◌+◌, ◌≤◌, min, Ok};
+ghost use Rattle.table.specs.Tasks.{T};
+ghost use Rattle.machine.specs.Steps.{older, awaiting, late_set, passed, finish};
 ghost use Rattle.machine.specs.Code.Readied.{finished_job};
-ghost use Rattle.ticking.specs.Code.Passes.{cores_less, walk_start, is_late, tries, walk_go, walk_by, walk_begin};
-ghost use Rattle.ticking.specs.Code.Passes.{late_with, walk_with};
+ghost use Rattle.machine.specs.Tick.{readied, moved, started_set};
+ghost use Rattle.ticking.specs.Code.Passes.{InPeriod, cores_less, walk_start, late_bit, tries, walk_go, walk_by};
+ghost use Rattle.ticking.specs.Code.Passes.{walk_begin, walk_with, judged};
 
-use crate::jobs::is_left;
-use crate::{Look, Walk};
-use machine::{Job, Stage};
-use table::{Cores, Partitions, Platform, Task};
+use crate::jobs::full_lists;
+use crate::{Busy, Report, Turn, Walk};
+use machine::{Job, Machine, Stage};
+use table::{Cores, Partitions, Platform};
 
-// An age one tick on, held at T.
-pub(crate) fn older_age(age: u32, t: u32) -> u32
-    ensures { result ≡ min (age + 1) t }
-{
-    if age < t { age + 1 } else { t }
-}
-
-// 1 for a job that runs.
-fn runs(s: Stage) -> u32
-    ensures { result ≡ cond (is_running s) 1 0 }
-{
-    if s.is_running() { 1 } else { 0 }
-}
-
-// Step 1.
-fn older_job(task: Task, j: Job) -> Job
-    requires { j.ran ≤ longest_period }
-    ensures { result ≡ older task j }
-{
-    let s = j.stage;
-    Job {
-        stage: s,
-        age: older_age(j.age, task.t),
-        ran: j.ran + runs(s),
-        held: j.held,
+impl Turn {
+    // Step 1: an age is held at T.
+    pub(crate) fn older(self) -> Job
+        requires { InPeriod self.task self.job }
+        ensures { result ≡ older self.task self.job }
+    {
+        let j = self.job;
+        Job {
+            age: (j.age + 1).min(self.task.t),
+            ran: j.ran + u32::from(j.stage.is_running()),
+            ..j
+        }
     }
-}
 
-// Steps 1 and 2.
-fn finished_job(task: Task, j: Job, finished: bool) -> Job
-    requires { j.ran ≤ longest_period }
-    ensures { result ≡ finished_job task finished j }
-{
-    if finished {
-        return Job {
-            stage: Stage::IDLE,
-            age: older_age(j.age, task.t),
-            ran: 0,
-            held: 0,
-        };
+    // Steps 1 and 2.
+    fn ended(self, finished: bool) -> Job
+        requires { InPeriod self.task self.job }
+        ensures { result ≡ finished_job self.task finished self.job }
+    {
+        if finished {
+            return Job {
+                stage: Stage::IDLE,
+                age: self.older().age,
+                ran: 0,
+                held: 0,
+            };
+        }
+        self.older()
     }
-    older_job(task, j)
+
+    // Step 3: the task if it is late, where steps 1 and 2 left the job `ended`. An age that rose to D is D, for D is not
+    // above T.
+    fn late_bit(self, ended: Job) -> u32
+        requires period { InPeriod self.task self.job }
+        requires age { ended.age ≡ min (self.job.age + 1) (T self.task) }
+        ensures { result ≡ late_bit self.k self.task self.job.age ended }
+    {
+        if ended.stage.is_idle() || self.job.age + 1 != self.task.d {
+            return 0;
+        }
+        sets::task_bit(self.k)
+    }
 }
 
 // Step 4, of a job that steps 1 and 2 left as it is given.
@@ -65,129 +64,104 @@ fn released_job(j: Job, released: bool) -> Job
         return Job {
             stage: Stage::WAITING,
             age: 0,
-            ran: j.ran,
-            held: j.held,
+            ..j
         };
     }
     j
 }
 
-// Step 3, of a job that steps 1 and 2 left as it is given, and whose age was `before`: an age that rose to D is D, for
-// D is not above T.
-fn is_late(task: Task, before: u32, j: Job) -> bool
-    requires { (before ≤ longest_period) × (D task ≤ T task) × (j.age ≡ min (before + 1) (T task)) }
-    ensures { result ≡ is_late task before j }
-{
-    if j.stage.is_idle() {
-        return false;
-    }
-    before + 1 == task.d
-}
-
-fn late_with(k: usize, task: Task, before: u32, j: Job, late: u32) -> u32
-    requires { (before ≤ longest_period) × (D task ≤ T task) × (j.age ≡ min (before + 1) (T task)) }
-    ensures { result ≡ late_with k task before j late }
-{
-    if is_late(task, before, j) {
-        return late | sets::task_bit(k);
-    }
-    late
-}
-
-// The cores that running jobs leave idle. Total, so that a pass over a refused state can start.
-fn cores_less(cores: Cores, busy: Cores) -> Cores
-    ensures { result ≡ cores_less cores busy }
-{
-    if cores.0 < busy.0 {
-        return Cores(0);
-    }
-    Cores(cores.0 - busy.0)
-}
-
 impl Walk {
-    pub(crate) fn start(platform: Platform, look: Look) -> Walk
-        ensures { result ≡ walk_start platform look }
+    fn start(platform: Platform, busy: Busy) -> Walk
+        ensures { result ≡ walk_start platform busy }
     {
-        let idle = sets::without(sets::below(platform.partitions), look.busy);
+        let idle = sets::without(sets::below(platform.partitions), busy.held);
         Walk {
             job: Job::none(),
             goes: true,
-            cores: cores_less(platform.cores, look.stays),
-            idle: idle,
+            cores: Cores(platform.cores.0.saturating_sub(busy.cores.0)),
+            idle,
             partitions: sets::size(idle),
             late: 0,
             started: 0,
         }
     }
 
-    fn tries(self, j: Job) -> bool
-        ensures { result ≡ tries j self }
-    {
-        if !self.goes {
-            return false;
-        }
-        j.stage.is_waiting()
-    }
-
     // The task starts.
-    fn go(self, k: usize, task: Task, j: Job, late: u32) -> Walk
-        requires { (1 ≤ self.cores.0) × (task.a.0 ≤ self.partitions.0) }
-        ensures { result ≡ walk_go k task j late self }
+    fn go(self, turn: Turn, late: u32) -> Walk
+        requires cores { 1 ≤ self.cores.0 }
+        requires partitions { turn.task.a.0 ≤ self.partitions.0 }
+        ensures { result ≡ walk_go turn.k turn.task turn.job late self }
     {
-        let held = sets::choose(self.idle, task.a);
-        let mut w = self;
-        let job = Job {
-            stage: Stage::RUNNING,
-            age: j.age,
-            ran: 0,
-            held: held,
-        };
-        w.job = job;
-        let cores = Cores(self.cores.0 - 1);
-        w.cores = cores;
-        w.idle = self.idle - held;
-        let partitions = Partitions(self.partitions.0 - task.a.0);
-        w.partitions = partitions;
-        w.late = late;
-        w.started = self.started | sets::task_bit(k);
-        w
+        let held = sets::choose(self.idle, turn.task.a);
+        Walk {
+            job: Job {
+                stage: Stage::RUNNING,
+                ran: 0,
+                held,
+                ..turn.job
+            },
+            cores: Cores(self.cores.0 - 1),
+            idle: self.idle - held,
+            partitions: Partitions(self.partitions.0 - turn.task.a.0),
+            late,
+            started: self.started | sets::task_bit(turn.k),
+            ..self
+        }
     }
 
     // The task does not start.
-    fn by(self, goes: bool, j: Job, late: u32) -> Walk
-        ensures { result ≡ walk_by goes j late self }
+    fn by(self, goes: bool, job: Job, late: u32) -> Walk
+        ensures { result ≡ walk_by goes job late self }
     {
-        let mut w = self;
-        w.job = j;
-        w.goes = goes;
-        w.late = late;
-        w
+        Walk {
+            job,
+            goes,
+            late,
+            ..self
+        }
     }
 
-    // Step 5, of task k with the job that steps 1, 2 and 4 left it.
-    fn begin(self, k: usize, task: Task, j: Job, late: u32) -> Walk
-        ensures { result ≡ walk_begin k task j late self }
+    // Step 5, of a task with the job that steps 1, 2 and 4 left it.
+    fn begin(self, turn: Turn, late: u32) -> Walk
+        ensures { result ≡ walk_begin turn.k turn.task turn.job late self }
     {
-        if !self.tries(j) {
-            return self.by(self.goes, j, late);
+        if !self.goes || !turn.job.stage.is_waiting() {
+            return self.by(self.goes, turn.job, late);
         }
-        if !machine::fits_in(self.cores, self.partitions, task) {
-            return self.by(false, j, late);
+        if !machine::fits_in(self.cores, self.partitions, turn.task) {
+            return self.by(false, turn.job, late);
         }
-        self.go(k, task, j, late)
+        self.go(turn, late)
     }
 
-    // Task k more.
-    pub(crate) fn with(self, k: usize, task: Task, j: Job, released: u32, finished: u32) -> Walk
-        requires { (j.ran ≤ longest_period) × (j.age ≤ longest_period) × (D task ≤ T task) }
-        ensures { result ≡ walk_with k task j released finished self }
+    // A task more.
+    fn with(self, turn: Turn, report: Report) -> Walk
+        requires { InPeriod turn.task turn.job }
+        ensures { result ≡ walk_with turn.k turn.task turn.job report.released report.finished self }
     {
-        if is_left(j, released | finished, k) {
-            return self.by(self.goes, older_job(task, j), self.late);
+        if turn.is_left(report) {
+            return self.by(self.goes, turn.older(), self.late);
         }
-        let ended = finished_job(task, j, sets::has_task(finished, k));
-        let late = late_with(k, task, j.age, ended, self.late);
-        let ready = released_job(ended, sets::has_task(released, k));
-        self.begin(k, task, ready, late)
+        let ended = turn.ended(report.finishes(turn.k));
+        let late = self.late | turn.late_bit(ended);
+        let job = released_job(ended, report.releases(turn.k));
+        self.begin(Turn { job, ..turn }, late)
     }
+}
+
+// The jobs after an accepted tick, and the sets of those that are late and of those that start.
+pub(crate) fn move_jobs(m: &mut Machine, report: Report, busy: Busy) -> Walk
+    requires { judged m.old report.released report.finished ≡ Ok busy }
+    ensures late { result.late ≡ late_set m.old (finish report.finished (passed m.old)) }
+    ensures started { let r = readied m.old report.released report.finished in
+        result.started ≡ started_set r (moved m.old report.released report.finished) }
+    ensures machine { m.new ≡ moved m.old report.released report.finished }
+{
+    full_lists(m);
+    let mut walk = Walk::start(m.table.platform, busy);
+    for i in 0..m.table.n {
+        walk = walk.with(Turn::of(m, i), report);
+        m.jobs[i] = walk.job;
+    }
+    walk
 }

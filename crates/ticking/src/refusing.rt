@@ -1,130 +1,109 @@
 // Refusals 9 to 13 of a tick.
-ghost use Rattle.std.specs.Prelude.{◌≡◌, ◌&&◌, ◌^◌, ◌<◌, ◌≤◌, ltb};
-ghost use Rattle.maths.specs.Tasks.{lowest};
-ghost use Rattle.table.specs.Limits.{most_tasks, longest_period};
+ghost use Rattle.std.specs.Prelude.{◌≡◌, ◌≤◌, ◌^◌, ltb};
+ghost use Rattle.std.specs.Int.Bits.{bit_or};
+ghost use Rattle.table.specs.Limits.{most_tasks};
+ghost use Rattle.table.specs.Reasons.{number_of};
 ghost use Rattle.sets.specs.TaskSets.{has_task};
-ghost use Rattle.ticking.specs.Code.Passes.{given10, given11, given12, given13, given_number, refuses, first_of};
+ghost use Rattle.ticking.specs.Code.Passes.{InPeriod, given10, given11, given12, given13, given_number};
+ghost use Rattle.ticking.specs.Code.Passes.{first_above, task_or_none, first_of};
 
-use crate::moving::older_age;
-use machine::Job;
-use table::{Refusal, Table, Task};
+use crate::{Report, Turn};
+use table::{Reason, Refusal, Table};
 
-// Finished names a task that is not running.
-fn given_10(j: Job, finished: bool) -> bool
-    ensures { result ≡ given10 j finished }
-{
-    if !finished {
-        return false;
+impl Turn {
+    // Finished names a task that is not running.
+    fn given_10(self, finished: bool) -> bool
+        ensures { result ≡ given10 self.job finished }
+    {
+        finished && !self.job.stage.is_running()
     }
-    !j.stage.is_running()
-}
 
-// A running job, step 1 counted, has run C ticks and is not in finished.
-fn given_11(task: Task, j: Job, finished: bool) -> bool
-    requires { j.ran ≤ longest_period }
-    ensures { result ≡ given11 task j finished }
-{
-    if !j.stage.is_running() {
-        return false;
+    // A running job, step 1 counted, has run C ticks and is not in finished.
+    fn given_11(self, finished: bool) -> bool
+        requires { InPeriod self.task self.job }
+        ensures { result ≡ given11 self.task self.job finished }
+    {
+        self.job.stage.is_running() && self.older().ran == self.task.c && !finished
     }
-    if j.ran + 1 != task.c {
-        return false;
-    }
-    !finished
-}
 
-// Released names a task whose age, step 1 counted, is below T.
-fn given_12(task: Task, j: Job, released: bool) -> bool
-    ensures { result ≡ given12 task j released }
-{
-    if !released {
-        return false;
+    // Released names a task whose age, step 1 counted, is below T.
+    fn given_12(self, released: bool) -> bool
+        requires { InPeriod self.task self.job }
+        ensures { result ≡ given12 self.task self.job released }
+    {
+        released && self.older().age < self.task.t
     }
-    older_age(j.age, task.t) < task.t
-}
 
-// Released names a task whose job is unfinished after step 2.
-fn given_13(task: Task, j: Job, released: bool, finished: bool) -> bool
-    ensures { result ≡ given13 task j released finished }
-{
-    if !released {
-        return false;
+    // Released names a task whose job is unfinished after step 2.
+    fn given_13(self, released: bool, finished: bool) -> bool
+        ensures { result ≡ given13 self.task self.job released finished }
+    {
+        released && !finished && !self.job.stage.is_idle()
     }
-    if finished {
-        return false;
-    }
-    !j.stage.is_idle()
-}
 
-// The first of refusals 10 to 13 that is given of the task, or 0.
-pub(crate) fn number_of(task: Task, j: Job, released: bool, finished: bool) -> u32
-    requires { j.ran ≤ longest_period }
-    ensures { result ≡ given_number task j released finished }
-{
-    if given_10(j, finished) {
-        return 10;
-    }
-    if given_11(task, j, finished) {
-        return 11;
-    }
-    if given_12(task, j, released) {
-        return 12;
-    }
-    if given_13(task, j, released, finished) {
-        return 13;
-    }
-    0
-}
-
-// The set names no task above n.
-fn none_above(x: u32, n: usize) -> bool
-    ensures { result ≡ ltb x (2 ^ n) }
-{
-    if n < Table::MOST {
-        return x >> (n as u32) == 0;
-    }
-    true
-}
-
-// The lowest task above n in the set, or 0.
-pub(crate) fn first_above(x: u32, n: usize) -> usize
-    requires { n ≤ most_tasks }
-    ensures { result ≡ lowest most_tasks (λ k. ltb n k && has_task x k) }
-{
-    if none_above(x, n) {
-        return 0;
-    }
-    let mut k = n;
-    while k < Table::MOST {
-        if sets::has_task(x, k + 1) {
-            return k + 1;
+    // The first of refusals 10 to 13 that is given of the task.
+    pub(crate) fn check(self, released: bool, finished: bool) -> Result<(), Reason>
+        requires { InPeriod self.task self.job }
+        ensures { number_of result ≡ given_number self.task self.job released finished }
+    {
+        if self.given_10(finished) {
+            return Err(Reason::NotRunning);
         }
-        k += 1;
+        if self.given_11(finished) {
+            return Err(Reason::Overrun);
+        }
+        if self.given_12(released) {
+            return Err(Reason::Early);
+        }
+        if self.given_13(released, finished) {
+            return Err(Reason::Unfinished);
+        }
+        Ok(())
     }
-    0
 }
 
-pub(crate) fn refusal(number: u32, row: usize) -> Refusal
-    ensures { result ≡ refuses number row }
-{
-    Refusal {
-        number: number,
-        row: row,
+impl Report {
+    // Neither set names a task above n.
+    fn is_within(self, n: usize) -> bool
+        requires { n ≤ most_tasks }
+        ensures { result ≡ ltb (bit_or self.released self.finished) (2 ^ n) }
+    {
+        u64::from(self.released | self.finished) >> n == 0
+    }
+
+    // The lowest task above n in one of the sets.
+    pub(crate) fn first_above(self, n: usize) -> Option<usize>
+        requires { n ≤ most_tasks }
+        ensures { result ≡ task_or_none (first_above (bit_or self.released self.finished) n) }
+    {
+        if self.is_within(n) {
+            return None;
+        }
+        for i in n..Table::MOST {
+            if self.names(i + 1) {
+                return Some(i + 1);
+            }
+        }
+        None
     }
 }
 
-// Refusal `number` of task k, if it is not 0, after what was found of the tasks before: the lower number goes first.
-pub(crate) fn first_of(r: Refusal, number: u32, k: usize) -> Refusal
-    ensures { result ≡ first_of r number k }
+// What was found of the tasks before task k, or of task k: the lower number goes first, then the lower task.
+pub(crate) fn first_of(
+    before: Result<(), Refusal>,
+    found: Result<(), Reason>,
+    k: usize,
+) -> Result<(), Refusal>
+    ensures { result ≡ first_of before (number_of found) k }
 {
-    if number == 0 {
-        return r;
+    let Err(reason) = found else {
+        return before;
+    };
+    let refused = Refusal::new(reason, k);
+    if let Err(first) = before {
+        if first.number <= refused.number {
+            return before;
+        }
     }
-    if r.number == 0 {
-        return refusal(number, k);
-    }
-    if r.number <= number {
-        return r;
-    }
-    refusal(number, k)
+    Err(refused)
 }

@@ -1,29 +1,45 @@
 -- What the code of a tick does with one task, in its first pass, which judges, and in its second, which moves. No
--- statement rests on these definitions: they cut the proof that the passes come to `tick` into the parts that the
--- source has.
-use Rattle.std.specs.Prelude.{ℕ, ◌+◌, ◌-◌, min, Bool, true, false, cond, not, ◌&&◌, ltb, leb, eqb}
+-- statement of a public function rests on these definitions: they cut the proof that the passes come to `tick` into the
+-- parts that the source has.
+use Rattle.std.specs.Prelude.{ℕ, zero, suc, ◌+◌, ◌-◌, ◌<◌, ◌≤◌, min, Bool, true, false, cond, not, ◌&&◌, ◌||◌, ltb, leb, eqb}
+use Rattle.std.specs.Prelude.{Option, Some, None, Result, Ok, Err}
 use Rattle.std.specs.Int.Bits.{bit_or}
-use Rattle.maths.specs.Tasks.{lowest}
+use Rattle.maths.specs.Tasks.{lowest, every}
 use Rattle.table.specs.declared.Cores.{Cores}
 use Rattle.table.specs.declared.Partitions.{Partitions}
 use Rattle.table.specs.declared.Task.{Task}
 use Rattle.table.specs.declared.Platform.{Platform}
-use Rattle.table.specs.declared.Table.{Table}
+use Rattle.table.specs.declared.Reason.{Reason}
+use Rattle.table.specs.declared.Reason.TheVariants.{State}
 use Rattle.table.specs.declared.Refusal.{Refusal}
-use Rattle.table.specs.Limits.{most_tasks, most_partitions}
-use Rattle.table.specs.Tasks.{D, T, C, A, no_task}
-use Rattle.table.specs.Refused.{sizes_refusal, row_refusal}
+use Rattle.table.specs.Limits.{most_tasks, most_partitions, longest_period}
+use Rattle.table.specs.Tasks.{τ, D, T, C, A, no_task}
+use Rattle.table.specs.Reasons.{answered}
+use Rattle.table.specs.Refused.{row_refusal}
 use Rattle.sets.specs.Sets.{partitions_in, below, without, disjoint}
 use Rattle.sets.specs.TaskSets.{has_task, task_bit}
 use Rattle.sets.specs.Choice.{choice}
 use Rattle.machine.specs.declared.Job.{Job}
+use Rattle.machine.specs.declared.Machine.{Machine}
+use Rattle.ticking.specs.declared.Report.{Report}
+use Rattle.ticking.specs.declared.Turn.{Turn}
+use Rattle.ticking.specs.declared.Busy.{Busy}
 use Rattle.ticking.specs.declared.Look.{Look}
 use Rattle.ticking.specs.declared.Past.{Past}
 use Rattle.ticking.specs.declared.Walk.{Walk}
-use Rattle.machine.specs.Jobs.{is_idle, is_waiting, is_running, no_job}
+use Rattle.machine.specs.Jobs.{is_idle, is_waiting, is_running, no_job, job, running, busy}
 use Rattle.machine.specs.Conditions.{is_no_task, is_no_job, good_job}
 use Rattle.machine.specs.Steps.{older, fits_in, begun}
 use Rattle.machine.specs.Code.Readied.{finished_job, readied_job}
+use Rattle.machine.specs.Tick.{tick_refusal, readied}
+
+-- the turn after i others
+abbrev pub turn_of : Machine → ℕ → Turn
+turn_of m i = record { k = suc i; task = τ m.table (suc i); job = job m (suc i) }
+
+-- what a good row and its good job allow: ages and runs count on, and a deadline is within the period
+abbrev pub InPeriod : Task → Job → Type 0
+InPeriod τ j = (j.age ≤ longest_period) × (j.ran ≤ longest_period) × (D τ ≤ T τ)
 
 -- a task that idles and is not in the set x
 abbrev pub is_left : Job → ℕ → ℕ → Bool
@@ -54,55 +70,45 @@ abbrev pub refuses : ℕ → ℕ → Refusal
 refuses number row = record { number = number; row = row }
 
 -- refusal `number` of task k, if it is not 0, after what was found of the tasks before: the lower number goes first
-abbrev pub first_of : Refusal → ℕ → ℕ → Refusal
-first_of r number k =
-    cond (eqb number 0) r
-    (cond (eqb r.number 0) (refuses number k) (cond (leb r.number number) r (refuses number k)))
+abbrev pub first_of : Result Unit Refusal → ℕ → ℕ → Result Unit Refusal
+first_of (Ok _) number k = cond (eqb number 0) (Ok tt) (Err (refuses number k))
+first_of (Err r) number k =
+    cond (eqb number 0) (Err r) (cond (leb r.number number) (Err r) (Err (refuses number k)))
 
--- the first pass: what it starts from, and one task of the table more; a state that is not good is not looked at
--- further
-abbrev pub look_start : Table → Look
-look_start t = record {
-  good = eqb (sizes_refusal t) 0;
-  refused = refuses 0 0;
-  running = record { 0 = 0 };
-  held = 0;
-  stays = record { 0 = 0 };
-  busy = 0;
-}
+-- what running jobs have: that of none, and of one more, which has a core if it runs
+abbrev pub busy_none : Busy
+busy_none = record { cores = record { 0 = 0 }; held = 0 }
 
-abbrev pub look_bad : Look → Look
-look_bad l =
-    record {
-      good = false;
-      refused = l.refused;
-      running = l.running;
-      held = l.held;
-      stays = l.stays;
-      busy = l.busy;
-    }
-
-abbrev pub admits : ℕ → Task → Job → Look → Bool
-admits p τ j l = l.good && eqb (row_refusal p τ) 0 && good_job p τ j && disjoint l.held j.held
-
--- a job more, which has a core if it runs
 abbrev pub cores_and : Cores → Job → Cores
 cores_and cores j = record { 0 = cores.0 + cond (is_running j.stage) 1 0 }
 
-abbrev pub look_more : ℕ → Task → Job → Bool → Bool → Look → Look
-look_more k τ j released finished l =
+abbrev pub busy_and : Busy → Job → Busy
+busy_and b j = record { cores = cores_and b.cores j; held = bit_or b.held j.held }
+
+-- the first pass: what it starts from, and one task of the table more; a state that is not good is not looked at
+-- further
+abbrev pub look_start : Look
+look_start = record { refused = Ok tt; running = busy_none; stays = busy_none }
+
+-- of fewer tasks than may be
+abbrev pub Fewer : Look → Type 0
+Fewer l = (l.running.cores.0 < most_tasks) × (l.stays.cores.0 < most_tasks)
+
+abbrev pub admits : ℕ → Task → Job → Look → Bool
+admits p τ j l = eqb (row_refusal p τ) 0 && good_job p τ j && disjoint l.running.held j.held
+
+abbrev pub look_more : Turn → Report → Look → Look
+look_more t report l =
+    let released = has_task report.released t.k in
+    let finished = has_task report.finished t.k in
     record {
-      good = true;
-      refused = first_of l.refused (given_number τ j released finished) k;
-      running = cores_and l.running j;
-      held = bit_or l.held j.held;
-      stays = cond finished l.stays (cores_and l.stays j);
-      busy = cond finished l.busy (bit_or l.busy j.held);
+      refused = first_of l.refused (given_number t.task t.job released finished) t.k;
+      running = busy_and l.running t.job;
+      stays = cond finished l.stays (busy_and l.stays t.job);
     }
 
-unfoldable pub look_with : ℕ → ℕ → Task → Job → ℕ → ℕ → Look → Look
-look_with k p τ j released finished l =
-    cond (admits p τ j l) (look_more k τ j (has_task released k) (has_task finished k) l) (look_bad l)
+unfoldable pub look_with : ℕ → Turn → Report → Look → Result Look Reason
+look_with p t report l = cond (admits p t.task t.job l) (Ok (look_more t report l)) (Err State)
 
 -- the entries past n, put together: all of them are zero exactly where this is
 abbrev pub past_start : Past
@@ -132,18 +138,29 @@ past_with τ j p = record { row = or_task p.row τ; job = or_job p.job j }
 abbrev pub past_none : Past → Bool
 past_none p = is_no_task p.row && is_no_job p.job
 
--- refusal 14 is not given, by what the first pass found of tasks 1 to n and of the entries past n
-abbrev pub found_good : Look → ℕ → Cores → Bool
-found_good l past cores = l.good && eqb past 0 && leb l.running.0 cores.0
+-- an entry past n is zero, and all of those up to k
+abbrev pub zero_entry : Machine → ℕ → Bool
+zero_entry m k = is_no_task (τ m.table k) && is_no_job (job m k)
+
+abbrev pub zero_to : Machine → ℕ → Bool
+zero_to m k = every k (λ j. leb j m.table.n || zero_entry m j)
 
 -- the lowest task above n in the set, or 0
 abbrev pub first_above : ℕ → ℕ → ℕ
 first_above x n = lowest most_tasks (λ k. ltb n k && has_task x k)
 
-unfoldable pub found_refusal : Look → ℕ → Cores → ℕ → ℕ → Refusal
-found_refusal l past cores n named =
-    cond (found_good l past cores)
-    (cond (eqb (first_above named n) 0) l.refused (refuses 9 (first_above named n))) (refuses 14 0)
+abbrev pub task_or_none : ℕ → Option ℕ
+task_or_none zero = None
+task_or_none (suc i) = Some (suc i)
+
+-- what the running jobs of a machine have
+abbrev pub busy_in : Machine → Busy
+busy_in m = record { cores = record { 0 = running m }; held = busy m }
+
+-- what the first pass comes to: the refusal of the tick, or what those jobs have that go on running after step 2, so
+-- that they run before step 5
+unfoldable pub judged : Machine → ℕ → ℕ → Result Busy Refusal
+judged m released finished = answered (tick_refusal m released finished) (busy_in (readied m released finished))
 
 -- the second pass: what it starts from, and one task more
 abbrev pub cores_less : Cores → Cores → Cores
@@ -152,14 +169,14 @@ cores_less cores busy = record { 0 = cores.0 - busy.0 }
 abbrev pub partitions_less : Partitions → ℕ → ℕ
 partitions_less partitions busy = without (below (min partitions.0 most_partitions)) busy
 
-abbrev pub walk_start : Platform → Look → Walk
-walk_start platform l =
+abbrev pub walk_start : Platform → Busy → Walk
+walk_start platform b =
     record {
       job = no_job;
       goes = true;
-      cores = cores_less platform.cores l.stays;
-      idle = partitions_less platform.partitions l.busy;
-      partitions = partitions_in (partitions_less platform.partitions l.busy);
+      cores = cores_less platform.cores b.cores;
+      idle = partitions_less platform.partitions b.held;
+      partitions = partitions_in (partitions_less platform.partitions b.held);
       late = 0;
       started = 0;
     }
@@ -203,8 +220,12 @@ abbrev pub walk_begin : ℕ → Task → Job → ℕ → Walk → Walk
 walk_begin k τ j late w =
     cond (tries j w) (cond (has_room τ w) (walk_go k τ j late w) (walk_by false j late w)) (walk_by w.goes j late w)
 
+-- the task alone if it is late, else the empty set
+abbrev pub late_bit : ℕ → Task → ℕ → Job → ℕ
+late_bit k τ before j = cond (is_late τ before j) (task_bit k) 0
+
 abbrev pub late_with : ℕ → Task → ℕ → Job → ℕ → ℕ
-late_with k τ before j late = bit_or late (cond (is_late τ before j) (task_bit k) 0)
+late_with k τ before j late = bit_or late (late_bit k τ before j)
 
 unfoldable pub walk_with : ℕ → Task → Job → ℕ → ℕ → Walk → Walk
 walk_with k τ j released finished w =

@@ -6,18 +6,8 @@ use Rattle.ticking.proofs.Look.more.Goals as goal
 
 pub returns-then-not-is_running : goal.returns-then-not-is_running
 returns-then-not-is_running c =
-    let still : is_running c.args.j.stage ≡ false =
+    let still : is_running c.args.turn.job.stage ≡ false =
     sym c.is_running.ensures ∙ c.if-not-is_running.true in
-    rw (c.first_of-refused.ensures, c.number_of-number.ensures)
-    (look-still c.args.k c.args.task c.args.j c.args.released c.args.finished
-    c.args.self still (c.requires.3 still))
-
-pub returns-then-finished : goal.returns-then-finished
-returns-then-finished c =
-    rw (c.first_of-refused.ensures, c.number_of-number.ensures)
-    (rw (sym c.is_running.ensures ∙ c.if-not-is_running.false, c.if-finished.true))
-
-pub returns : goal.returns
-returns c =
-    rw (c.first_of-refused.ensures, c.number_of-number.ensures)
-    (rw (sym c.is_running.ensures ∙ c.if-not-is_running.false, c.if-finished.false))
+    look-still c.args.turn c.args.report c.args.self still (c.requires.holds still) _
+    (c.first_of-refused.ensures
+    ∙ rw (c.check-found.ensures, c.releases.ensures, c.finishes-finished.ensures))

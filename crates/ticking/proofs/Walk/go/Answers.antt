@@ -17,13 +17,13 @@ chosen-le idle a = subst (λ (x : ℕ). x ≤ idle) (chosen idle a) (and_le_l id
 left : (idle a : ℕ) → idle - choice idle a ≡ without idle (choice idle a)
 left idle a = ap (λ (x : ℕ). idle - x) (sym (chosen idle a))
 
-pub overflow_sub-w : goal.overflow_sub-w
-overflow_sub-w c = rw c.choose-held.ensures (chosen-le _ _)
+pub overflow_sub-result-2 : goal.overflow_sub-result-2
+overflow_sub-result-2 c = rw c.choose-held.ensures (chosen-le _ _)
 
 pub returns : goal.returns
 returns c =
     rw (
       c.choose-held.ensures,
       c.task_bit.ensures,
-      left c.args.self.idle c.args.task.a.0,
+      left c.args.self.idle c.args.turn.task.a.0,
     )

@@ -43,7 +43,7 @@ rows-none p k (τ ∷ τs) = by (rows-none p (suc k) τs) (eqb (row_refusal p τ
     by rest true f e = rest e
     by rest false f e = absurd (true≢false (sym e ∙ f))
 
-refusal-none : (t : Table) → eqb (refusal t).number 0 ≡ true → refusal t ≡ no_refusal
+pub refusal-none : (t : Table) → eqb (refusal t).number 0 ≡ true → refusal t ≡ no_refusal
 unfolding refusal
 refusal-none t = by (eqb (sizes_refusal t) 0) refl
   where

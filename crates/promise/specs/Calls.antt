@@ -1,7 +1,8 @@
--- The promise about what the functions return. By their contracts `quick_answer(t)` returns `quick_answer t`,
--- `set_up(old, t)` returns `set_up old t` and `ticked(m, released, finished)` returns `tick m released finished`.
--- Whoever is told that the table is admitted, sets up and goes on from what each tick returns, over whatever machine
--- was there before, sees the promise kept in the very values that were returned.
+-- The promise about what the functions give. By their contracts `quick_answer(t)` returns `quick_answer t`; of
+-- `old.set_up(t)` what is returned and the machine that it leaves are `set_up old t`, and of `tick(m, released,
+-- finished)` they are `tick m released finished`. Whoever is told that the table is admitted, sets up and goes on with
+-- the machine that each tick leaves, over whatever machine was there before, sees the promise kept in these very
+-- values.
 use Rattle.std.specs.Prelude.{◌≡◌, true, List, [], ◌∷◌, length}
 use Rattle.table.specs.declared.Table.{Table}
 use Rattle.table.specs.Limits.{most_tasks}

@@ -7,6 +7,7 @@ use native.Mathlib.Omega.{arith}
 use native.Mathlib.Decide.{dec_lt}
 use lib.ListN.{length, take, get_or, get_or-eq_default}
 use lib.Seq.{ext_get_or, get_or-take, length-take-le, take_all}
+use Rattle.std.specs.Prelude.{Ok}
 use Rattle.maths.proofs.Padded.{length-padded, get_d_padded}
 use Rattle.forms.specs.Forms.{none, also, Form, EachRow, columns, GoodRows, platform_form, tasks_form, ticks_form}
 use Rattle.forms.specs.Reader.{read}
@@ -15,7 +16,6 @@ use Rattle.table.specs.declared.Platform.{Platform}
 use Rattle.table.specs.declared.Task.{Task}
 use Rattle.table.specs.declared.Table.{Table}
 use Rattle.table.specs.Limits.{most_tasks}
-use Rattle.table.specs.Refused.{no_refusal}
 use Rattle.table.specs.Tasks.{no_task, table_of}
 use Rattle.readers.specs.Inputs.{task_of, platform_read, table_read}
 use Rattle.writers.specs.Outputs.{platform_row, task_row, tick_rows, tasks_text}
@@ -36,11 +36,10 @@ tasks-back [] = refl
 tasks-back (x ∷ xs) = ap {B = List Task} (λ r. x ∷ r) (tasks-back xs)
 
 table-back : (t : Table) → NarrowRows t
-    → table_read t.platform (read tasks_form (tasks_text t)) ≡ record { refused = no_refusal; table = table_written t }
+    → table_read t.platform (read tasks_form (tasks_text t)) ≡ Ok (table_written t)
 table-back t w =
     ap (table_read t.platform) (complete tasks_form _ (many_rows tasks_form refl _ w))
-    ∙ ap (λ (xs : List Task). record { refused = no_refusal; table = table_of t.platform xs })
-    (tasks-back (take t.n t.rows))
+    ∙ ap (λ (xs : List Task). Ok (table_of t.platform xs)) (tasks-back (take t.n t.rows))
 
 module _ (t : Table) (len : length t.rows ≡ most_tasks) where
   module _ (few : t.n ≤ most_tasks) where

@@ -6,13 +6,14 @@ use mathlib.Core.List.{List, [], ◌++◌, append_assoc}
 use native.Mathlib.Nat.{mul-suc}
 use native.Mathlib.Numerals.{add-one}
 use native.Mathlib.Omega.{arith}
-use lib.ListN.{length, drop, get_or, length-append, drop_of_length-le}
-use lib.Seq.{drop-cons}
+use lib.IntN.{ℤ}
+use lib.ListN.{length, take, drop, get_or, length-append, drop_of_length-le}
+use lib.Seq.{drop-cons, length-take-le, take_all}
 use Rattle.maths.specs.Tasks.{tabulate}
 use Rattle.forms.specs.Bytes.{bytes}
 use Rattle.forms.specs.Forms.{crlf, line, lines}
 use Rattle.forms.proofs.Lines.{lines_snoc}
-use Rattle.writers.specs.Outputs.{listing}
+use Rattle.writers.specs.Outputs.{listing, margins_text}
 
 abbrev pub header_of : String → List ℕ
 header_of header = bytes header ++ crlf
@@ -48,3 +49,11 @@ lines-most f w (suc n) each =
     let row = f (suc n) in
     let size = ap length (lines_snoc before row) ∙ length-append (lines before) (line row) in
     omega (arith, mul-suc w n, lines-most f w n (λ i l. each i (omega arith)), each n (omega arith))
+
+-- the margins of the first n tasks, lent as so many
+pub margins-first : (n : ℕ) (margins : List ℤ) → n ≤ length margins
+    → margins_text n margins ≡ margins_text (length (take n margins)) (take n margins)
+unfolding margins_text
+margins-first n margins h =
+    let size = length-take-le n margins h in
+    rw (size, take_all n (take n margins) (omega arith)) refl

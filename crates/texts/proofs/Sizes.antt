@@ -1,7 +1,7 @@
 -- How long the listings are: a refusal carries small numbers, and so does a good table's margin.
 use Prim.Native.Nat.{ℕ, zero, suc, ◌+◌, ◌*◌, ◌^◌, ◌<◌, ◌≤◌, suc-le-suc}
 use mathlib.Core.Path.{◌≡◌, refl, ap}
-use mathlib.Core.Bool.{Bool, true, false, cond, ◌&&◌}
+use mathlib.Core.Bool.{Bool, true, false, cond}
 use mathlib.Core.List.{List, [], ◌∷◌, ◌++◌}
 use native.Mathlib.Omega.{arith}
 use borrow.Author.Tests.{leb-true, le-leb, eqb-true}
@@ -10,12 +10,12 @@ use lib.IntN.{ℤ, pos, negsuc}
 use lib.Signed.{mag}
 use lib.ListN.{length, get_or, take, length-append, length-take}
 use lib.Seq.{get_or-take}
+use Rattle.std.specs.Prelude.{Option, None, Some}
 use Rattle.maths.specs.Tasks.{tabulate}
 use Rattle.maths.proofs.Signed.{sub-mag}
 use Rattle.maths.proofs.Sums.{sum_const, sum_mono}
 use Rattle.maths.proofs.Tasks.{length-tabulate, get_d_tabulate}
 use Rattle.maths.proofs.Padded.{length-padded}
-use Rattle.maths.proofs.Tests.{both}
 use Rattle.forms.specs.Digits.{digits, digits_in}
 use Rattle.forms.specs.Forms.{Form, none, also, line, ending, platform_form, tasks_form}
 use Rattle.forms.specs.Reads.{Answer, found, refused}
@@ -38,7 +38,7 @@ use Rattle.readers.specs.Inputs.{bad_text}
 use Rattle.writers.specs.Signed.{margin_of, sign, margin_row}
 use Rattle.writers.specs.Outputs.{refused_text, margin_lines, margins_text}
 use Rattle.writers.proofs.Wholes.{one-listing}
-use Rattle.texts.specs.Given.{given, longest, taken, listed}
+use Rattle.texts.specs.Given.{given, told, longest, taken, listed}
 use Rattle.texts.specs.Admit.{answer_text, judged, admit_text, admit_most, AdmitFits}
 
 -- a number of two digits, and the largest offset
@@ -53,22 +53,21 @@ refused-most r h g =
     omega (arith, refused-line, simp length-append at size)
 
 -- an offset lies in a text that is taken
-pub offset-most : (F : Form) (there : Bool) (bytes : List ℕ) (k : ℕ) → taken F there bytes ≡ refused k → k ≤ longest
+pub offset-most : (F : Form) (text : Option (List ℕ)) (k : ℕ) → taken F text ≡ refused k → k ≤ longest
 unfolding taken
-offset-most F there bytes k e = go (there && leb (length bytes) longest) refl e
+offset-most F None k e = let z : k ≡ 0 = cc in omega arith
+offset-most F (Some bytes) k e = go (leb (length bytes) longest) refl e
   where
     within : read F bytes ≡ refused k → k ≤ length bytes
     within f = (rw f at (reads F bytes)).offset.inside
 
-    go : (b : Bool) → (there && leb (length bytes) longest) ≡ b
-        → cond b (read F bytes) (refused 0) ≡ refused k → k ≤ longest
-    go true t f =
-        omega (arith, within f, leb-true (length bytes) longest (both there (leb (length bytes) longest) t).1)
+    go : (b : Bool) → leb (length bytes) longest ≡ b → cond b (read F bytes) (refused 0) ≡ refused k → k ≤ longest
+    go true t f = omega (arith, within f, leb-true (length bytes) longest t)
     go false t f = let z : k ≡ 0 = cc in omega arith
 
-pub bad-most : (F : Form) (there : Bool) (bytes : List ℕ) (k : ℕ) → taken F there bytes ≡ refused k
+pub bad-most : (F : Form) (text : Option (List ℕ)) (k : ℕ) → taken F text ≡ refused k
     → length (refused_text (bad_text k)) ≤ 23
-bad-most F there bytes k e = refused-most (bad_text k) (omega arith) (offset-most F there bytes k e)
+bad-most F text k e = refused-most (bad_text k) (omega arith) (offset-most F text k e)
 
 pub table-most : (t : Table) → length t.rows ≡ most_tasks → length (refused_text (refusal t)) ≤ 23
 table-most t len = let c = refusal_carries t len in
@@ -154,15 +153,13 @@ judged-most t len = go (unrefused t) refl
 -- what a program lists has room where every table's listing has
 pub listed-most : (text : Table → List ℕ) (most : ℕ) → 23 ≤ most
     → ((t : Table) → length t.rows ≡ most_tasks → length (text t) ≤ most)
-    → (platformThere : Bool) (platform : List ℕ) (tasksThere : Bool) (tasks : List ℕ)
-    → length (listed text platformThere platform tasksThere tasks) ≤ most
-listed-most text most least each pThere p tThere t =
-    go (taken platform_form pThere p) refl (taken tasks_form tThere t) refl
+    → (platform tasks : Option (List ℕ)) → length (listed text platform tasks) ≤ most
+listed-most text most least each p t = go (taken platform_form p) refl (taken tasks_form t) refl
   where
-    go : (x : Answer (List (List ℕ))) → taken platform_form pThere p ≡ x → (y : Answer (List (List ℕ)))
-        → taken tasks_form tThere t ≡ y → length (given refused_text text x y) ≤ most
-    go (refused k) e y f = omega (arith, bad-most platform_form pThere p k e)
-    go (found rows) e (refused k) f = omega (arith, bad-most tasks_form tThere t k f)
+    go : (x : Answer (List (List ℕ))) → taken platform_form p ≡ x → (y : Answer (List (List ℕ)))
+        → taken tasks_form t ≡ y → length (told refused_text text (given x y)) ≤ most
+    go (refused k) e y f = omega (arith, bad-most platform_form p k e)
+    go (found rows) e (refused k) f = omega (arith, bad-most tasks_form t k f)
     go (found rows) e (found more) f = each _ (length-padded no_task most_tasks _)
 
 pub admit-fits : AdmitFits

@@ -1,16 +1,23 @@
 // Whole texts in, whole text out: what the programs write, and the quick verdict on two texts.
 #![tactic(auto)]
 
-ghost use Rattle.std.specs.Prelude.{◌≡◌, ◌&&◌, leb};
+ghost use Rattle.std.specs.Prelude.{◌≡◌, ◌≤◌, MatchResult, IfOk, Ok, Some};
+ghost use Rattle.std.specs.Option.{option_copied};
+ghost use Rattle.std.specs.Result.{result_map_both};
 ghost use Rattle.forms.specs.Forms.{platform_form, tasks_form, ticks_form};
+ghost use Rattle.table.specs.Limits.{most_tasks};
+ghost use Rattle.table.specs.Reasons.{outcome};
 ghost use Rattle.readers.specs.Inputs.{platform_read, table_read, ticks_read};
+ghost use Rattle.writers.specs.Outputs.{refused_text, margins_text};
 ghost use Rattle.writers.specs.Written.{Wrote};
-ghost use Rattle.texts.specs.Given.{longest, taken, table_taken};
+ghost use Rattle.texts.specs.Given.{taken, table_taken};
 ghost use Rattle.texts.specs.Admit.{admit_text};
 ghost use Rattle.texts.specs.Verdict.{verdict};
+ghost use Rattle.texts.specs.Code.Fitting.{fitting};
+ghost use Rattle.texts.specs.Code.Numbers.{verdict_number};
 
-use readers::{PlatformRead, TableRead, TicksRead};
-use table::{Platform, Table};
+use admission::FullAnswer;
+use table::{Platform, Reason, Refusal, Table};
 use writers::Written;
 
 // The longest text that a program takes.
@@ -19,107 +26,106 @@ pub const LONGEST: usize = 60_000;
 // The most that the program "admit" writes: it lends so much, and refusal 16 cannot come up.
 pub const ADMIT_MOST: usize = 18 + 27 * Table::MOST;
 
-// Whether a program takes a text of this length, which is there or not; any other is refused with 15 and 0.
-fn takes(there: bool, length: usize) -> bool
-    ensures { result ≡ (there && leb length longest) }
-{
-    if !there {
-        return false;
-    }
-    length <= LONGEST
+// The two texts of a table, each there or missing.
+#[derive(Clone, Copy)]
+pub struct UnitTexts<'a> {
+    pub platform: Option<&'a [u8]>,
+    pub tasks: Option<&'a [u8]>,
 }
 
-fn take_platform(there: bool, s: &[u8]) -> PlatformRead
-    ensures { result ≡ platform_read (taken platform_form there s.now) }
+// A text as a program takes it: one that is not there or is too long is refused with 15 and 0.
+fn take(text: Option<&[u8]>) -> Result<&[u8], Refusal>
+    ensures { result_map_both (λ s. s.now) (λ r. r) result ≡ fitting (option_copied text.entry) }
 {
-    if !takes(there, s.len()) {
-        return PlatformRead::bad(0);
+    match text {
+        Some(text) if text.len() <= LONGEST => Ok(text),
+        _ => Err(Refusal::from(Reason::Text)),
     }
-    readers::read_platform(s)
 }
 
-fn take_tasks(there: bool, s: &[u8], platform: Platform) -> TableRead
-    ensures { result ≡ table_read platform (taken tasks_form there s.now) }
+fn take_platform(text: Option<&[u8]>) -> Result<Platform, Refusal>
+    ensures { result ≡ platform_read (taken platform_form (option_copied text.entry)) }
 {
-    if !takes(there, s.len()) {
-        return TableRead::bad(0);
-    }
-    readers::read_tasks(s, platform)
+    readers::read_platform(take(text)?)
+}
+
+fn take_tasks(text: Option<&[u8]>, platform: Platform) -> Result<Table, Refusal>
+    ensures { result ≡ table_read platform (taken tasks_form (option_copied text.entry)) }
+{
+    readers::read_tasks(take(text)?, platform)
 }
 
 // The table of a program's two texts, the platform first.
-pub fn take_table(
-    platform_there: bool,
-    platform: &[u8],
-    tasks_there: bool,
-    tasks: &[u8],
-) -> TableRead
-    ensures { result ≡ table_taken platform_there platform.now tasks_there tasks.now }
+pub fn take_table(unit: UnitTexts) -> Result<Table, Refusal>
+    ensures { result ≡ table_taken (option_copied unit.entry.platform) (option_copied unit.entry.tasks) }
 {
-    let p = take_platform(platform_there, platform);
-    if p.refused.number != 0 {
-        return TableRead::bad(p.refused.row);
-    }
-    let held = p.platform;
-    take_tasks(tasks_there, tasks, held)
+    let platform = take_platform(unit.platform)?;
+    take_tasks(unit.tasks, platform)
 }
 
-pub fn take_ticks(there: bool, s: &[u8]) -> TicksRead
-    ensures { result ≡ ticks_read (taken ticks_form there s.now) }
+pub fn take_ticks(ticks: Option<&[u8]>) -> Result<usize, Refusal>
+    ensures { result ≡ ticks_read (taken ticks_form (option_copied ticks.entry)) }
 {
-    if !takes(there, s.len()) {
-        return TicksRead::bad(0);
+    readers::read_ticks(take(ticks)?)
+}
+
+// A refusal in one of C's records, where number 0 is none.
+fn passed(refused: Refusal) -> Result<(), Refusal>
+    ensures { result ≡ outcome refused }
+{
+    if refused.number != 0 {
+        return Err(refused);
     }
-    readers::read_ticks(s)
+    Ok(())
+}
+
+// How many tasks the table of the texts has, and what is answered of it.
+fn judge(unit: UnitTexts) -> Result<(usize, FullAnswer), Refusal>
+    ensures text { MatchResult result
+        (λ m. margins_text m.0 m.1.margins
+            ≡ admit_text (option_copied unit.entry.platform) (option_copied unit.entry.tasks))
+        (λ r. refused_text r ≡ admit_text (option_copied unit.entry.platform) (option_copied unit.entry.tasks)) }
+    ensures few { IfOk result (λ m. m.0 ≤ most_tasks) }
+{
+    let table = take_table(unit)?;
+    let answer = admission::full_answer(&table);
+    passed(answer.refused)?;
+    Ok((table.n, answer))
 }
 
 // What the program "admit" writes.
-pub fn admit(
-    platform_there: bool,
-    platform: &[u8],
-    tasks_there: bool,
-    tasks: &[u8],
-    out: &mut [u8],
-) -> Written
-    ensures { Wrote (admit_text platform_there platform.now tasks_there tasks.now)
+pub fn admit(unit: UnitTexts, out: &mut [u8]) -> Written
+    ensures { Wrote (admit_text (option_copied unit.entry.platform) (option_copied unit.entry.tasks))
         out.old result out.new }
 {
-    let t = take_table(platform_there, platform, tasks_there, tasks);
-    if t.refused.number != 0 {
-        let r = t.refused;
-        return writers::write_refused(r, out);
+    match judge(unit) {
+        Ok((n, answer)) => writers::write_margins(&answer.margins[..n], out),
+        Err(refusal) => writers::write_refused(refusal, out),
     }
-    let table = t.table;
-    let n = table.n;
-    let a = admission::full_answer(table);
-    if a.refused.number != 0 {
-        let r = a.refused;
-        return writers::write_refused(r, out);
+}
+
+// The first task that does not pass, if there is one, of the table of two texts of any length.
+fn first_failing(platform: &[u8], tasks: &[u8]) -> Result<Option<usize>, Refusal>
+    ensures number { verdict_number result ≡ verdict platform.now tasks.now }
+    ensures few { (k : _) → result ≡ Ok (Some k) → k ≤ most_tasks }
+{
+    let platform = readers::read_platform(platform)?;
+    let table = readers::read_tasks(tasks, platform)?;
+    let answer = admission::quick_answer(&table);
+    passed(answer.refused)?;
+    if answer.first == 0 {
+        return Ok(None);
     }
-    let margins = a.margins;
-    writers::write_margins(n, margins, out)
+    Ok(Some(answer.first))
 }
 
 // The quick verdict: 0 for admitted, 100 and the first task that does not pass, or the number of the refusal.
 pub fn quick_verdict(platform: &[u8], tasks: &[u8]) -> u32
     ensures { result ≡ verdict platform.now tasks.now }
 {
-    let p = readers::read_platform(platform);
-    if p.refused.number != 0 {
-        return p.refused.number;
+    match first_failing(platform, tasks) {
+        Ok(None) => 0,
+        Ok(Some(k)) => 100 + k as u32,
+        Err(refusal) => refusal.number,
     }
-    let held = p.platform;
-    let t = readers::read_tasks(tasks, held);
-    if t.refused.number != 0 {
-        return t.refused.number;
-    }
-    let table = t.table;
-    let a = admission::quick_answer(table);
-    if a.refused.number != 0 {
-        return a.refused.number;
-    }
-    if a.first == 0 {
-        return 0;
-    }
-    100 + (a.first as u32)
 }

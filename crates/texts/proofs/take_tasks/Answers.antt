@@ -1,17 +1,14 @@
-use mathlib.Core.Path.{sym, ap, ◌∙◌}
+use mathlib.Core.Path.{refl}
+use Rattle.std.proofs.lemmas.Result.{err_from_is_err_and}
 use Rattle.forms.specs.Forms.{tasks_form}
 use Rattle.readers.specs.Inputs.{table_read}
 use Rattle.texts.proofs.Given.{taken_not, taken-read}
 use Rattle.texts.proofs.take_tasks.Goals as goal
 
-pub returns-then-not-takes : goal.returns-then-not-takes
-returns-then-not-takes c =
-    let args = c.args in
-    c.bad.ensures ∙ ap (table_read args.platform)
-    (sym (taken_not tasks_form args.there args.s.now _ c.takes.ensures c.if-not-takes.true))
+pub returns-in_err-take : goal.returns-in_err-take
+returns-in_err-take c =
+    let given = err_from_is_err_and c.from_residual.result c.from_residual.ensures.1 in
+    rw (given.1, given.2) (taken_not tasks_form _ _ c.in_err-take.ensures (table_read c.args.platform) refl)
 
 pub returns : goal.returns
-returns c =
-    let args = c.args in
-    c.read_tasks.ensures ∙ ap (table_read args.platform)
-    (sym (taken-read tasks_form args.there args.s.now _ c.takes.ensures c.if-not-takes.false))
+returns c = rw (← taken-read tasks_form _ _ c.in_ok-take.ensures) c.read_tasks.ensures

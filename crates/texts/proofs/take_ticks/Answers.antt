@@ -1,17 +1,14 @@
-use mathlib.Core.Path.{sym, ap, ◌∙◌}
+use mathlib.Core.Path.{refl}
+use Rattle.std.proofs.lemmas.Result.{err_from_is_err_and}
 use Rattle.forms.specs.Forms.{ticks_form}
 use Rattle.readers.specs.Inputs.{ticks_read}
 use Rattle.texts.proofs.Given.{taken_not, taken-read}
 use Rattle.texts.proofs.take_ticks.Goals as goal
 
-pub returns-then-not-takes : goal.returns-then-not-takes
-returns-then-not-takes c =
-    let args = c.args in
-    c.bad.ensures ∙ ap ticks_read
-    (sym (taken_not ticks_form args.there args.s.now _ c.takes.ensures c.if-not-takes.true))
+pub returns-in_err-take : goal.returns-in_err-take
+returns-in_err-take c =
+    let given = err_from_is_err_and c.from_residual.result c.from_residual.ensures.1 in
+    rw (given.1, given.2) (taken_not ticks_form _ _ c.in_err-take.ensures ticks_read refl)
 
 pub returns : goal.returns
-returns c =
-    let args = c.args in
-    c.read_ticks.ensures ∙ ap ticks_read
-    (sym (taken-read ticks_form args.there args.s.now _ c.takes.ensures c.if-not-takes.false))
+returns c = rw (← taken-read ticks_form _ _ c.in_ok-take.ensures) c.read_ticks.ensures

@@ -2,40 +2,32 @@
 // refusal.
 #![tactic(auto)]
 
-ghost use Rattle.std.specs.Prelude.{◌≡◌};
-ghost use Rattle.table.specs.Refused.{no_refusal};
-ghost use Rattle.files.specs.Got.{Whole};
+ghost use Rattle.texts.specs.Admit.{admit_most, admit_text};
+ghost use Rattle.texts.proofs.Sizes.{admit-fits};
 
-use files::ROOM;
+use files::Listing;
 use std::io;
-use std::rt::Files;
+use texts::UnitTexts;
 use writers::Written;
 
 const LISTING: usize = texts::ADMIT_MOST;
 
-// What the files give, and how long it is. The buffer is never too short.
-fn put_listing<R: Files>(rt: &R, out: &mut [u8; LISTING]) -> Written
-    ensures { (result.refused ≡ no_refusal) × Whole result.length out.new }
-{
-    let mut platform = [0u8; ROOM];
-    let mut tasks = [0u8; ROOM];
-    let f = files::read_table(rt, &mut platform, &mut tasks);
-    let p_there = f.platform.there;
-    let p_length = f.platform.length;
-    let t_there = f.tasks.there;
-    let t_length = f.tasks.length;
-    texts::admit(
-        p_there,
-        &platform[..p_length],
-        t_there,
-        &tasks[..t_length],
-        out,
-    )
+struct Admit;
+
+impl Listing for Admit {
+    ghost text = { admit_text };
+
+    ghost most = { admit_most };
+
+    fn write(unit: UnitTexts, out: &mut [u8]) -> Written {
+        texts::admit(unit, out)
+    }
+
+    ghost fits = { admit-fits };
 }
 
 fn main(rt: HostRuntime) -> io::Result<()> {
     let mut out = [0u8; LISTING];
-    let w = put_listing(&rt, &mut out);
-    let n = w.length;
-    rt.write_all(&out[..n])
+    let listing = files::put_listing::<Admit, _>(&rt, &mut out);
+    rt.write_all(&out[..listing.length])
 }

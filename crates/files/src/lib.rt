@@ -1,102 +1,83 @@
 // Whole files, for the programs: into a buffer that the caller lends. A file that is longer fills the buffer.
 #![tactic(auto)]
 
-ghost use Rattle.std.specs.Prelude.{◌+◌, ◌≤◌, ◌≡◌, length};
+ghost use Rattle.std.specs.Prelude.{ℕ, ◌≤◌, ◌≡◌, List, length, Option};
+ghost use Rattle.std.specs.Option.{IfSome, option_copied};
+ghost use Rattle.table.specs.Refused.{no_refusal};
+ghost use Rattle.writers.specs.Written.{Wrote};
 ghost use Rattle.files.specs.Got.{Whole};
 
 use std::fs;
 use std::io::Read;
 use std::rt::Files;
-
-// How many bytes came, if the file could be read.
-#[derive(Clone, Copy)]
-pub struct File {
-    pub there: bool,
-    pub length: usize,
-}
-
-#[derive(Clone, Copy)]
-struct Some {
-    failed: bool,
-    count: usize,
-}
-
-// One read into the buffer from a place on.
-fn read_some<R: Read>(reader: &mut R, buf: &mut [u8], at: usize) -> Some
-    requires { at ≤ length buf.old }
-    ensures { (at + result.count ≤ length buf.old) × (length buf.new ≡ length buf.old) }
-{
-    match reader.read(&mut buf[at..]) {
-        Ok(n) => Some {
-            failed: false,
-            count: n,
-        },
-        Err(_) => Some {
-            failed: true,
-            count: 0,
-        },
-    }
-}
-
-pub fn read_all<R: Read>(reader: &mut R, buf: &mut [u8]) -> File
-    ensures { Whole result.length buf.new }
-{
-    let mut at: usize = 0;
-    while at < buf.len() {
-        let more = read_some(reader, buf, at);
-        if more.failed {
-            return File {
-                there: false,
-                length: 0,
-            };
-        }
-        if more.count == 0 {
-            break;
-        }
-        at += more.count;
-    }
-    File {
-        there: true,
-        length: at,
-    }
-}
-
-// A file of the working folder.
-pub fn read_file<R: Files>(rt: &R, path: &[u8], buf: &mut [u8]) -> File
-    ensures { Whole result.length buf.new }
-{
-    let none = File {
-        there: false,
-        length: 0,
-    };
-    let name = match std::str::from_utf8(path) {
-        Ok(name) => name,
-        Err(_) => return none,
-    };
-    match fs::open(rt, name) {
-        Ok(mut file) => read_all(&mut file, buf),
-        Err(_) => none,
-    }
-}
+use texts::UnitTexts;
+use writers::Written;
 
 // One byte more than the longest text that a program takes.
 pub const ROOM: usize = texts::LONGEST + 1;
 
-#[derive(Clone, Copy)]
-pub struct TableFiles {
-    pub platform: File,
-    pub tasks: File,
+// How many bytes came, if all could be read.
+pub fn read_all<R: Read>(reader: &mut R, buf: &mut [u8]) -> Option<usize>
+    ensures { IfSome result (λ count. Whole count buf.new) }
+{
+    let mut at: usize = 0;
+    while at < buf.len() {
+        match reader.read(&mut buf[at..]) {
+            Ok(0) => break,
+            Ok(count) => at += count,
+            Err(_) => return None,
+        }
+    }
+    Some(at)
+}
+
+// A file of the working folder. Its name stays bytes: a `&str` would ask more of callers.
+pub fn read_file<R: Files>(rt: &R, path: &[u8], buf: &mut [u8]) -> Option<usize>
+    ensures { IfSome result (λ count. Whole count buf.new) }
+{
+    let name = std::str::from_utf8(path).ok()?;
+    let mut file = fs::open(rt, name).ok()?;
+    read_all(&mut file, buf)
 }
 
 // The two texts of a table. Arrays are lent at their length: the prover would count out one that a function itself
 // makes.
-pub fn read_table<R: Files>(rt: &R, platform: &mut [u8; ROOM], tasks: &mut [u8; ROOM]) -> TableFiles
-    ensures { Whole result.platform.length platform.new × Whole result.tasks.length tasks.new }
+pub fn read_table<R: Files>(
+    rt: &R,
+    platform: &mut [u8; ROOM],
+    tasks: &mut [u8; ROOM],
+) -> (Option<usize>, Option<usize>)
+    ensures { IfSome result.0 (λ count. Whole count platform.new) × IfSome result.1 (λ count. Whole count tasks.new) }
 {
     let p = read_file(rt, b"platform.csv", platform);
     let t = read_file(rt, b"tasks.csv", tasks);
-    TableFiles {
-        platform: p,
-        tasks: t,
-    }
+    (p, t)
+}
+
+// What a program writes of the two texts of a table, and the most that it can be.
+pub trait Listing {
+    ghost text: { Option (List ℕ) → Option (List ℕ) → List ℕ };
+
+    ghost most: { ℕ };
+
+    fn write(unit: UnitTexts, out: &mut [u8]) -> Written
+        ensures { Wrote (text (option_copied unit.entry.platform) (option_copied unit.entry.tasks))
+            out.old result out.new };
+
+    ghost fits: { (platform tasks : Option (List ℕ)) → length (text platform tasks) ≤ most };
+}
+
+// What the files give, and how long it is. The buffer is never too short.
+pub fn put_listing<L: Listing, R: Files>(rt: &R, out: &mut [u8]) -> Written
+    requires { L.most ≤ length out.old }
+    ensures { (result.refused ≡ no_refusal) × Whole result.length out.new }
+{
+    let mut platform = [0u8; ROOM];
+    let mut tasks = [0u8; ROOM];
+    let (p, t) = read_table(rt, &mut platform, &mut tasks);
+    let unit = UnitTexts {
+        platform: p.map(|count| &platform[..count]),
+        tasks: t.map(|count| &tasks[..count]),
+    };
+    L::write(unit, out)
 }

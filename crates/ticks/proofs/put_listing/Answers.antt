@@ -1,14 +1,8 @@
 use borrow.Author.Rules.{rules}
 use native.Mathlib.Nat.{le_trans}
-use mathlib.Core.Path.{sym}
-use lib.Seq.{length-take-le}
-use Rattle.writers.proofs.Wholes.{wrote_inside, wrote_all}
+use Rattle.files.proofs.Wholes.{wrote-whole}
 use Rattle.runs.proofs.Sizes.{ticks_fit}
 use Rattle.ticks.proofs.put_listing.Goals as goal
 
 pub returns : goal.returns
-returns g c =
-    let wrote = c.ticks.ensures in
-    let inside = wrote_inside _ _ _ _ wrote in
-    let all = sym (length-take-le _ _ inside) in
-    (wrote_all _ _ _ _ wrote (le_trans (ticks_fit _ _ _ _ _ _) (search rules)), (inside, all))
+returns g c = wrote-whole _ _ _ _ c.ticks.ensures (le_trans (ticks_fit _ _ _) (search rules))

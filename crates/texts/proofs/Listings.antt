@@ -13,6 +13,7 @@ use Rattle.maths.specs.Tasks.{tabulate}
 use Rattle.forms.specs.Bytes.{bytes}
 use Rattle.forms.specs.Forms.{crlf, line, lines}
 use Rattle.forms.proofs.Lines.{lines_snoc}
+use Rattle.table.specs.Limits.{most_tasks}
 use Rattle.writers.specs.Outputs.{listing, margins_text}
 
 abbrev pub header_of : String → List ℕ
@@ -51,9 +52,9 @@ lines-most f w (suc n) each =
     omega (arith, mul-suc w n, lines-most f w n (λ i l. each i (omega arith)), each n (omega arith))
 
 -- the margins of the first n tasks, lent as so many
-pub margins-first : (n : ℕ) (margins : List ℤ) → n ≤ length margins
-    → margins_text n margins ≡ margins_text (length (take n margins)) (take n margins)
+pub margins-first : (n : ℕ) (margins : List ℤ) → n ≤ most_tasks → n ≤ length margins
+    → margins_text n margins ≡ margins_text most_tasks (take n margins)
 unfolding margins_text
-margins-first n margins h =
-    let size = length-take-le n margins h in
-    rw (size, take_all n (take n margins) (omega arith)) refl
+margins-first n margins few held =
+    let size = length-take-le n margins held in
+    rw (take_all most_tasks (take n margins) (omega arith)) refl

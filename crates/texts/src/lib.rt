@@ -83,7 +83,7 @@ fn passed(refused: Refusal) -> Result<(), Refusal>
 fn judge(unit: UnitTexts) -> Result<(usize, FullAnswer), Refusal>
     ensures text { MatchResult result
         (λ m. margins_text m.0 m.1.margins
-            ≡ admit_text (option_copied unit.entry.platform) (option_copied unit.entry.tasks))
+        ≡ admit_text (option_copied unit.entry.platform) (option_copied unit.entry.tasks))
         (λ r. refused_text r ≡ admit_text (option_copied unit.entry.platform) (option_copied unit.entry.tasks)) }
     ensures few { IfOk result (λ m. m.0 ≤ most_tasks) }
 {

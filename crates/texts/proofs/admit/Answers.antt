@@ -11,4 +11,4 @@ pub returns-in-Ok : goal.returns-in-Ok
 returns-in-Ok c =
     let judged = c.in-Ok.ensures in
     let size : length c.in-Ok.answer.margins ≡ most_tasks = search (len_mapped, rules) in
-    rw (← judged.text, margins-first c.in-Ok.n c.in-Ok.answer.margins (omega arith)) c.write_margins.ensures
+    rw (← judged.text, margins-first c.in-Ok.n c.in-Ok.answer.margins judged.few (omega arith)) c.write_margins.ensures

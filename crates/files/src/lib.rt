@@ -21,6 +21,7 @@ pub fn read_all<R: Read>(reader: &mut R, buf: &mut [u8]) -> Option<usize>
     ensures { IfSome result (λ count. Whole count buf.new) }
 {
     let mut at: usize = 0;
+    // No range and no slice to go over: each turn goes on by as much as one read brings.
     while at < buf.len() {
         match reader.read(&mut buf[at..]) {
             Ok(0) => break,
@@ -67,7 +68,7 @@ pub trait Listing {
     ghost fits: { (platform tasks : Option (List ℕ)) → length (text platform tasks) ≤ most };
 }
 
-// What the files give, and how long it is. The buffer is never too short.
+// What the files give, and how long it is. The buffer is never too short. The texts lie in fixed memory: no heap.
 pub fn put_listing<L: Listing, R: Files>(rt: &R, out: &mut [u8]) -> Written
     requires { L.most ≤ length out.old }
     ensures { (result.refused ≡ no_refusal) × Whole result.length out.new }

@@ -81,10 +81,8 @@ fn passed(refused: Refusal) -> Result<(), Refusal>
 
 // How many tasks the table of the texts has, and what is answered of it.
 fn judge(unit: UnitTexts) -> Result<(usize, FullAnswer), Refusal>
-    ensures text { MatchResult result
-        (λ m. margins_text m.0 m.1.margins
-        ≡ admit_text (option_copied unit.entry.platform) (option_copied unit.entry.tasks))
-        (λ r. refused_text r ≡ admit_text (option_copied unit.entry.platform) (option_copied unit.entry.tasks)) }
+    ensures text { let text = admit_text (option_copied unit.entry.platform) (option_copied unit.entry.tasks) in
+        MatchResult result (λ m. margins_text m.0 m.1.margins ≡ text) (λ r. refused_text r ≡ text) }
     ensures few { IfOk result (λ m. m.0 ≤ most_tasks) }
 {
     let table = take_table(unit)?;
@@ -113,13 +111,15 @@ fn first_failing(platform: &[u8], tasks: &[u8]) -> Result<Option<usize>, Refusal
     let table = readers::read_tasks(tasks, platform)?;
     let answer = admission::quick_answer(&table);
     passed(answer.refused)?;
+    // C's record has 0 where every task passes.
     if answer.first == 0 {
         return Ok(None);
     }
     Ok(Some(answer.first))
 }
 
-// The quick verdict: 0 for admitted, 100 and the first task that does not pass, or the number of the refusal.
+// The quick verdict, one number for C: 0 for admitted, 100 and the first task that does not pass, or the number of the
+// refusal.
 pub fn quick_verdict(platform: &[u8], tasks: &[u8]) -> u32
     ensures { result ≡ verdict platform.now tasks.now }
 {

@@ -1,5 +1,5 @@
 pub mod Grids
-pub mod Pairs
+pub mod Rows
 pub mod AddsUp
 pub mod Sizes
 pub mod Sides

@@ -1,8 +1,8 @@
 -- What the program "explain" writes has room in its buffer.
 use Prim.Native.Nat.{ℕ, zero, suc, ◌*◌, ◌<◌, ◌≤◌}
-use mathlib.Core.Path.{◌≡◌, refl, sym, ap, ◌∙◌}
+use mathlib.Core.Path.{◌≡◌, refl, ap, ◌∙◌}
 use mathlib.Core.Bool.{Bool, true, false, cond}
-use mathlib.Core.List.{List, [], ◌∷◌, ◌++◌, append_assoc}
+use mathlib.Core.List.{List}
 use native.Mathlib.Nat.{mul-le-mul, lt_of_le_of_lt}
 use native.Mathlib.Omega.{arith}
 use borrow.Author.Tests.{eqb-true}
@@ -23,13 +23,7 @@ use Rattle.texts.proofs.Listings.{lines_none, lines-most}
 use Rattle.texts.proofs.Sizes.{table-most, listed-most}
 use Rattle.shares.specs.Explain.{pair_row, pairs_text, explained, explain_text, explain_most, ExplainFits}
 use Rattle.shares.proofs.Grids.{grid, grid-none, grid-more}
-use Rattle.shares.proofs.Pairs.{header, pairs_from, pairs-split}
-
-lines-both : (xs ys : List (List ℕ)) → lines (xs ++ ys) ≡ lines xs ++ lines ys
-unfolding lines
-lines-both [] ys = refl
-lines-both (x ∷ xs) ys =
-    ap (λ (l : List ℕ). line x ++ l) (lines-both xs ys) ∙ sym (append_assoc (line x) (lines xs) (lines ys))
+use Rattle.shares.proofs.Rows.{header, pairs_from, lines-both, pairs_split}
 
 module _ {t : Table} (g : Good t) where
   pair-most : (k : ℕ) → k < t.n → (i : ℕ) → i < t.n → length (line (pair_row t (suc k) (suc i))) ≤ 106
@@ -63,7 +57,7 @@ module _ {t : Table} (g : Good t) where
   pairs-most =
       let few = g.sizes.few in
       let pairs : t.n * t.n ≤ most_tasks * most_tasks = mul-le-mul few few in
-      let size = ap length (pairs-split t) ∙ length-append header (pairs_from t 0) in
+      let size = ap length (pairs_split t) ∙ length-append header (pairs_from t 0) in
       omega (arith, rows-most t.n (omega arith))
 
 explained-most : (t : Table) → length t.rows ≡ most_tasks → length (explained t) ≤ explain_most

@@ -1,6 +1,6 @@
 -- What the program "explain" writes, from its two texts, each there or missing: for each task, and each task that takes
 -- of its limit, a row with interference, weight and share, or the refusal that "admit" writes.
-use Rattle.std.specs.Prelude.{ℕ, ◌+◌, ◌*◌, ◌≤◌, ◌≡◌, Bool, true, cond, eqb, length, get_or}
+use Rattle.std.specs.Prelude.{ℕ, ◌+◌, ◌*◌, ◌≤◌, ◌≡◌, Option, true, cond, eqb, length, get_or}
 use mathlib.Core.List.{List, [], ◌∷◌, flatten}
 use Rattle.maths.specs.Tasks.{Each, tabulate}
 use Rattle.table.specs.declared.Table.{Table}
@@ -27,7 +27,7 @@ pairs_text t = listing "task,other,interference,weight,share" (pair_rows t)
 abbrev pub explained : Table → List ℕ
 explained t = cond (unrefused t) (pairs_text t) (refused_text (refusal t))
 
-unfoldable pub explain_text : Bool → List ℕ → Bool → List ℕ → List ℕ
+unfoldable pub explain_text : Option (List ℕ) → Option (List ℕ) → List ℕ
 explain_text = listed explained
 
 -- the shares of task k in the rows of a listing, added up: the fifth column where the first is k
@@ -50,10 +50,7 @@ pub data SideBySide (admits explains : List ℕ) : Type 0 where
       → SideBySide admits explains
 
 abbrev pub ExplainsAdmit : Type 0
-ExplainsAdmit = (platformThere : Bool) (platform : List ℕ) (tasksThere : Bool) (tasks : List ℕ)
-    → SideBySide
-    (admit_text platformThere platform tasksThere tasks)
-    (explain_text platformThere platform tasksThere tasks)
+ExplainsAdmit = (platform tasks : Option (List ℕ)) → SideBySide (admit_text platform tasks) (explain_text platform tasks)
 
 -- The program's buffer, `EXPLAIN_MOST`: a header of 38 bytes, and five numbers of at most 20 digits, four commas and
 -- CR LF for each pair.
@@ -62,5 +59,4 @@ explain_most = 38 + 106 * (most_tasks * most_tasks)
 
 -- Refusal 16 cannot come up in the program: whatever its texts, there or missing, however long.
 abbrev pub ExplainFits : Type 0
-ExplainFits = (platformThere : Bool) (platform : List ℕ) (tasksThere : Bool) (tasks : List ℕ)
-    → length (explain_text platformThere platform tasksThere tasks) ≤ explain_most
+ExplainFits = (platform tasks : Option (List ℕ)) → length (explain_text platform tasks) ≤ explain_most

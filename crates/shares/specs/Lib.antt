@@ -1,1 +1,2 @@
 pub mod Explain
+pub mod Code

@@ -33,18 +33,18 @@ quick_determined t = determined (quick_answer t)
 
 -- the quick answer by whether the table is refused
 module _ (t : Table) where
-  abbrev verdict : QuickAnswer
-  verdict = record { refused = refusal t; admitted = admitted t; first = first_failing t }
+  abbrev judged : QuickAnswer
+  judged = record { refused = refusal t; admitted = admitted t; first = first_failing t }
 
   pub quick_refusal : (quick_answer t).refused ≡ refusal t
   unfolding quick_answer
   quick_refusal = by (unrefused t)
     where
-      by : (b : Bool) → (cond b verdict (quick_refused (refusal t))).refused ≡ refusal t
+      by : (b : Bool) → (cond b judged (quick_refused (refusal t))).refused ≡ refusal t
       by true = refl
       by false = refl
 
-  pub quick_unrefused : (refusal t).number ≡ 0 → quick_answer t ≡ verdict
+  pub quick_unrefused : (refusal t).number ≡ 0 → quick_answer t ≡ judged
   unfolding quick_answer
   quick_unrefused none = rw (eq-eqb (refusal t).number 0 none)
 
@@ -53,7 +53,7 @@ module _ (t : Table) where
   unfolding quick_answer
   first-le len = by (unrefused t) refl
     where
-      by : (b : Bool) → unrefused t ≡ b → (cond b verdict (quick_refused (refusal t))).first ≤ most_tasks
+      by : (b : Bool) → unrefused t ≡ b → (cond b judged (quick_refused (refusal t))).first ≤ most_tasks
       by true e = le_trans (lowest-le (λ k. not (passes t k)) t.n)
           (good_of t len (eqb-true (refusal t).number 0 e)).sizes.few
       by false e = omega arith

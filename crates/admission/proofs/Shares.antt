@@ -1,17 +1,17 @@
 -- Laws of a share, from what the code finds of the table and of two numbers.
 use Prim.Native.Nat.{ℕ, suc, ◌-◌, ◌≤◌}
-use mathlib.Core.Path.{◌≡◌, refl, ap, ◌∙◌}
+use mathlib.Core.Path.{◌≡◌, refl, sym, ap, ◌∙◌}
 use mathlib.Core.Bool.{true, false}
 use native.Mathlib.Omega.{arith}
-use borrow.Author.Tests.{ne_eqb, leb-true}
+use borrow.Author.Tests.{eq-eqb, ne_eqb, leb-true}
 use Rattle.maths.proofs.Determined.{determined}
 use Rattle.maths.proofs.Tests.{both}
 use Rattle.table.specs.declared.Table.{Table}
 use Rattle.table.specs.declared.Refusal.{Refusal}
+use Rattle.table.specs.Refused.{refusal}
 use Rattle.admission.specs.declared.Share.{Share}
 use Rattle.admission.specs.Test.{load}
 use Rattle.admission.specs.Shares.{is_task, no_share, share_in, share_answer, SharesAddUp}
-use Rattle.admission.specs.Code.Judged.{Refused, Unrefused}
 
 pub shares_add_up : SharesAddUp
 unfolding load
@@ -26,22 +26,24 @@ task_in t k e =
     (leb-true 1 k h.0, leb-true k t.n h.1)
 
 -- the answer by what is found of the table and of the two numbers
-pub share-refused : {t : Table} {r : Refusal} → Refused t r → (k i : ℕ) → no_share ≡ share_answer t k i
-unfolding share_answer
-share-refused {t} {r} f k i = rw (f.is, ne_eqb r.number 0 f.some)
-
-module _ {t : Table} (u : Unrefused t) (k i : ℕ) where
-  pub share-no-task : false ≡ is_task t k → no_share ≡ share_answer t k i
+module _ (t : Table) (k i : ℕ) {r : Refusal} (e : r ≡ refusal t) where
+  pub share-refused : (r.number ≡ 0 → ⊥) → no_share ≡ share_answer t k i
   unfolding share_answer
-  share-no-task h = rw (u.is, ← h)
+  share-refused h = rw (sym e, ne_eqb r.number 0 h)
 
-  pub share-no-other : true ≡ is_task t k → false ≡ is_task t i → no_share ≡ share_answer t k i
-  unfolding share_answer
-  share-no-other h g = rw (u.is, ← h, ← g)
+  module _ (none : r.number ≡ 0) where
+    pub share-no-task : is_task t k ≡ false → no_share ≡ share_answer t k i
+    unfolding share_answer
+    share-no-task h = rw (sym e, eq-eqb r.number 0 none, h)
 
-  pub share-found : true ≡ is_task t k → true ≡ is_task t i → share_in t k i ≡ share_answer t k i
-  unfolding share_answer
-  share-found h g = rw (u.is, ← h, ← g)
+    module _ (h : is_task t k ≡ true) where
+      pub share-no-other : is_task t i ≡ false → no_share ≡ share_answer t k i
+      unfolding share_answer
+      share-no-other g = rw (sym e, eq-eqb r.number 0 none, h, g)
+
+      pub share-found : is_task t i ≡ true → share_in t k i ≡ share_answer t k i
+      unfolding share_answer
+      share-found g = rw (sym e, eq-eqb r.number 0 none, h, g)
 
 -- all of it 0
 pub no-share-is : {s : Share} → (s.interference ≡ 0) × (s.weight ≡ 0 × s.share ≡ 0) → s ≡ no_share

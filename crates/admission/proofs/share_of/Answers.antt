@@ -1,4 +1,4 @@
-use mathlib.Core.Path.{sym, ◌∙◌}
+use mathlib.Core.Path.{refl, sym, ◌∙◌}
 use Rattle.admission.proofs.Shares.{task_in, share-refused, share-no-task, share-no-other}
 use Rattle.admission.proofs.Shares.{share-found, share_back, no-share-is}
 use Rattle.admission.proofs.share_of.Goals.{in_default-via-in-Ok+then-is_task+else-is_task-2}
@@ -8,18 +8,19 @@ use Rattle.admission.proofs.share_of.Goals as goal
 pub returns-in-Ok : goal.returns-in-Ok
 returns-in-Ok c =
     let t = c.args.t.now in
-    let task = task_in t c.args.k (sym c.if-is_task.ensures) in
-    let other = task_in t c.args.i (sym c.if-is_task-2.ensures) in
-    c.share_at.ensures ∙ share_back t c.args.k c.args.i task.0 other.0
-    ∙ share-found c.in-Ok.ensures _ _ c.if-is_task.ensures c.if-is_task-2.ensures
+    let k = sym c.if-is_task.ensures in
+    let i = sym c.if-is_task-2.ensures in
+    c.share_at.ensures ∙ share_back t c.args.k c.args.i (task_in t c.args.k k).0 (task_in t c.args.i i).0
+    ∙ share-found t c.args.k c.args.i (sym c.in-Ok.ensures.is) refl k i
 
 pub returns-in_default : goal.returns-in_default
 returns-in_default c =
-    elim c.in_default.branch [
-      | in_default-via-in-Ok+then-is_task+else-is_task-2 w ↦ no-share-is c.default.ensures
-          ∙ share-no-other w.in-Ok.ensures _ _ w.if-is_task.ensures w.if-is_task-2.ensures
-      | in_default-via-in-Ok+else-is_task w ↦ no-share-is c.default.ensures
-          ∙ share-no-task w.in-Ok.ensures _ _ w.if-is_task.ensures
-      | in_default-via-in_default w ↦ no-share-is c.default.ensures
-          ∙ share-refused w.in_default.ensures c.args.k c.args.i
+    let t = c.args.t.now in
+    no-share-is c.default.ensures ∙ elim c.in_default.branch [
+      | in_default-via-in-Ok+then-is_task+else-is_task-2 w ↦ share-no-other t c.args.k c.args.i
+          (sym w.in-Ok.ensures.is) refl (sym w.if-is_task.ensures) (sym w.if-is_task-2.ensures)
+      | in_default-via-in-Ok+else-is_task w ↦ share-no-task t c.args.k c.args.i (sym w.in-Ok.ensures.is) refl
+          (sym w.if-is_task.ensures)
+      | in_default-via-in_default w ↦ share-refused t c.args.k c.args.i (sym w.in_default.ensures.is)
+          w.in_default.ensures.some
     ]

@@ -15,6 +15,7 @@ ghost use Rattle.admission.specs.Code.Judged.{Refused, Unrefused, found, judged,
 
 use table::{Cores, Partitions, Refusal, Table, Task};
 
+// C's record, and so is the quick one: refusal 0 and first 0 stand for none, where the code has a Result and an Option.
 #[repr(C)]
 #[derive(Clone, Copy)]
 pub struct FullAnswer {
@@ -160,7 +161,7 @@ fn checked(t: &Table) -> Result<(), Refusal>
     t.check()
 }
 
-// The exact difference, below, at and above 0.
+// The exact difference, below, at and above 0, in the form that document 01 names. No From leads from u64 to i64.
 fn difference(a: u64, b: u64) -> i64
     requires { (a < 2 ^ 62) × (b < 2 ^ 62) }
     ensures { result ≡ less a b }
@@ -281,7 +282,8 @@ fn share_at(t: &Table, k: usize, i: usize) -> Share
     Measures::of(t, k, most).share(&t.rows[i])
 }
 
-// What task i takes of the limit of task k; all 0 where the table is refused or one of them is not a task.
+// What task i takes of the limit of task k. Its statement, share_answer, has all 0 and no None where the table is refused
+// or one of them is not a task.
 pub fn share_of(t: &Table, k: usize, i: usize) -> Share
     ensures { result ≡ share_answer t.now k i }
 {

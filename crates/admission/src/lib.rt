@@ -282,8 +282,8 @@ fn share_at(t: &Table, k: usize, i: usize) -> Share
     Measures::of(t, k, most).share(&t.rows[i])
 }
 
-// What task i takes of the limit of task k. Its statement, share_answer, has all 0 and no None where the table is refused
-// or one of them is not a task.
+// What task i takes of the limit of task k. Its statement, share_answer, has all 0 and no None where the table is
+// refused or one of them is not a task.
 pub fn share_of(t: &Table, k: usize, i: usize) -> Share
     ensures { result ≡ share_answer t.now k i }
 {

@@ -23,7 +23,7 @@ use Rattle.machine.proofs.Outcomes.{no-refusal}
 use Rattle.ticking.specs.Code.Passes.{InPeriod, refuses, busy_in, judged, turn_of, walk_with}
 use Rattle.ticking.proofs.TickTurns.{good-period}
 use Rattle.ticking.proofs.TickLook.{Looked}
-use Rattle.ticking.proofs.TickJudge.{accepts, unrefused}
+use Rattle.ticking.proofs.TickJudge.{Accepts, accepts, unrefused}
 use Rattle.ticking.proofs.TickReady.{ready-is, ready-running, ready-busy}
 use Rattle.ticking.proofs.TickSteps.{turns, machine_to}
 use Rattle.ticking.proofs.TickWalk.{walk_more}
@@ -32,6 +32,10 @@ module _ (m : Machine) (released finished : ℕ) where
   pub judged-accepts : (b : Busy) → judged m released finished ≡ Ok b → accepted m released finished ≡ true
   unfolding judged
   judged-accepts b e = no-refusal (tick_refusal m released finished) _ b (sym e)
+
+  pub judged-moves : length m.table.rows ≡ most_tasks → (b : Busy) → judged m released finished ≡ Ok b
+      → Accepts m released finished
+  judged-moves rows b e = accepts m released finished rows (judged-accepts b e)
 
   pub judged-refuses : (r : Refusal) → judged m released finished ≡ Err r
       → tick m released finished ≡ refused_tick m r
@@ -104,10 +108,8 @@ module _ (m : Machine) (released finished : ℕ) where
         λ k. record { table = m.table; jobs = same k }
 
     -- a job that is to move is a good state's, and its turn is the pass's
-    module _ (h : i < m.table.n) (rows : length m.table.rows ≡ most_tasks)
-        (yes : accepted m released finished ≡ true) where
-      pub turn-period : InPeriod (τ m.table (suc i)) (job m (suc i))
-      turn-period = good-period (accepts m released finished rows yes).good i h
+    pub turn-period : i < m.table.n → Accepts m released finished → InPeriod (τ m.table (suc i)) (job m (suc i))
+    turn-period h a = good-period a.good i h
 
     pub turns-more : (t : Turn) → t ≡ turn_of (machine_to m released finished i) i → (w : Walk)
         → w ≡ turns m released finished i → (next : Walk)

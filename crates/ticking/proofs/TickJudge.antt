@@ -33,7 +33,8 @@ use Rattle.machine.specs.declared.Machine.{Machine}
 use Rattle.ticking.specs.declared.Past.{Past}
 use Rattle.machine.specs.Jobs.{job, running}
 use Rattle.machine.specs.Conditions.{good_state}
-use Rattle.ticking.specs.Code.Passes.{refuses, past_with, past_none, zero_entry, zero_to, admits, first_above, task_or_none, busy_in}
+use Rattle.ticking.specs.Code.Passes.{refuses, past_with, past_none, zero_entry, zero_to, admits, first_above}
+use Rattle.ticking.specs.Code.Passes.{task_or_none, busy_in}
 use Rattle.ticking.specs.Code.Passes.{judged}
 use Rattle.machine.specs.Tick.{tick_rules, first_given, tick_refusal, readied, accepted}
 use Rattle.machine.proofs.StateParts.{GoodState}
@@ -134,7 +135,8 @@ module _ (m : Machine) (released finished : ℕ) where
       unfolding judged
       judged-given r h = by (eqb (tick_refusal m released finished).number 0) (sym refused_so ∙ h)
         where
-          by : (b : Bool) → ◌≡◌ {A = Result Unit Refusal} (cond b (Ok tt) (Err (tick_refusal m released finished))) (Err r)
+          by : (b : Bool)
+              → ◌≡◌ {A = Result Unit Refusal} (cond b (Ok tt) (Err (tick_refusal m released finished))) (Err r)
               → ◌≡◌ {A = Result Busy Refusal}
               (cond b (Ok (busy_in (readied m released finished))) (Err (tick_refusal m released finished))) (Err r)
           by true w = cc
@@ -143,7 +145,8 @@ module _ (m : Machine) (released finished : ℕ) where
       pub judged-none : (x : Unit) → l.refused ≡ Ok x → accepted m released finished ≡ true
       judged-none x h = by (eqb (tick_refusal m released finished).number 0) (sym refused_so ∙ h)
         where
-          by : (b : Bool) → ◌≡◌ {A = Result Unit Refusal} (cond b (Ok tt) (Err (tick_refusal m released finished))) (Ok x)
+          by : (b : Bool)
+              → ◌≡◌ {A = Result Unit Refusal} (cond b (Ok tt) (Err (tick_refusal m released finished))) (Ok x)
               → b ≡ true
           by true w = refl
           by false w = cc

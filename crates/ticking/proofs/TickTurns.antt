@@ -23,11 +23,11 @@ use Rattle.ticking.specs.declared.Busy.{Busy}
 use Rattle.ticking.specs.declared.Look.{Look}
 use Rattle.machine.specs.declared.Machine.{Machine}
 use Rattle.ticking.specs.declared.Past.{Past}
-use Rattle.machine.specs.Jobs.{is_idle, is_waiting, is_running, job}
-use Rattle.machine.specs.Conditions.{is_no_task, is_no_job, has_nothing, idles_well, runs_well, good_stage, good_job}
+use Rattle.machine.specs.Jobs.{is_idle, is_running, job}
+use Rattle.machine.specs.Conditions.{is_no_task, is_no_job, good_job}
 use Rattle.machine.specs.Code.Readied.{finished_job}
 use Rattle.ticking.specs.Code.Passes.{InPeriod, or_task, or_job, past_with, past_none, admits, busy_and}
-use Rattle.machine.proofs.StateParts.{waiting-is, running-is, ByStage, is-idle, is-waiting, is-running, GoodJob, GoodState}
+use Rattle.machine.proofs.StateParts.{ByStage, is-idle, is-waiting, is-running, GoodJob, GoodState}
 use Rattle.machine.proofs.StateParts.{when_not_running}
 use Rattle.machine.proofs.StateTest.{job_good}
 
@@ -126,21 +126,6 @@ past_more τ j p =
     ap (λ (x : Bool). x && is_no_job (or_job p.job j)) (task_or p.row τ)
     ∙ (ap (λ (x : Bool). (is_no_task p.row && is_no_task τ) && x) (job_or p.job j)
     ∙ merge (is_no_task p.row) (is_no_task τ) (is_no_job p.job) (is_no_job j))
-
--- what is asked of a job by its stage, as the code finds its stage
-module _ (p : ℕ) (τ : Task) (j : Job) where
-  pub stage-runs : (s : Stage) → is_running s ≡ true → good_stage p τ j s ≡ runs_well p τ j
-  stage-runs s e = ap (good_stage p τ j) (running-is s e)
-
-  pub stage-idles : (s : Stage) → is_idle s ≡ true → good_stage p τ j s ≡ idles_well j
-  stage-idles s e = rw e
-
-  pub stage-waits : (s : Stage) → is_waiting s ≡ true → good_stage p τ j s ≡ has_nothing j
-  stage-waits s e = ap (good_stage p τ j) (waiting-is s e)
-
-  pub stage-none : (s : Stage) → is_running s ≡ false → is_idle s ≡ false → is_waiting s ≡ false
-      → good_stage p τ j s ≡ false
-  stage-none s e f g = rw (e, f, g)
 
 -- a good job's numbers are small
 ran_of : {p : ℕ} (τ : Task) (j : Job) → GoodRow p τ → (s : Stage) → ByStage p τ j s → j.ran ≤ longest_period

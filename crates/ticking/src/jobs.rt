@@ -73,6 +73,7 @@ impl Turn {
     }
 
     // What is asked of the job, on a cache of p partitions.
+    #[tactic(auto, unfolding(machine::specs::Conditions::good_job))]
     pub(crate) fn is_good(self, p: Partitions) -> bool
         ensures { result ≡ good_job p.0 self.task self.job }
     {

@@ -77,6 +77,7 @@ impl Look {
     }
 
     // A task more. A state that is not good is not looked at further.
+    #[tactic(auto, unfolding(crate::specs::Code::Passes::look_with))]
     fn with(self, turn: Turn, p: Partitions, report: Report) -> Result<Look, Reason>
         requires { Fewer self }
         ensures { result ≡ look_with p.0 turn report self }
@@ -131,7 +132,7 @@ impl Past {
     }
 }
 
-// The entries past n are zero: they are put together first, and asked once.
+// The entries past n are zero. They are put together first and asked once: to ask each takes longer (docs/SPEED.md).
 fn rest_is_zero(m: &Machine) -> bool
     requires { m.now.table.n ≤ most_tasks }
     ensures { result ≡ zero_to m.now most_tasks }

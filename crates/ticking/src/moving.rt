@@ -42,8 +42,8 @@ impl Turn {
         self.older()
     }
 
-    // Step 3: the task if it is late, where steps 1 and 2 left the job `ended`. An age that rose to D is D, for D is not
-    // above T.
+    // Step 3: the task if it is late, where steps 1 and 2 left the job `ended`. An age that rose to D is D, for D is
+    // not above T.
     fn late_bit(self, ended: Job) -> u32
         requires period { InPeriod self.task self.job }
         requires age { ended.age ≡ min (self.job.age + 1) (T self.task) }
@@ -135,6 +135,7 @@ impl Walk {
     }
 
     // A task more.
+    #[tactic(auto, unfolding(crate::specs::Code::Passes::walk_with))]
     fn with(self, turn: Turn, report: Report) -> Walk
         requires { InPeriod turn.task turn.job }
         ensures { result ≡ walk_with turn.k turn.task turn.job report.released report.finished self }

@@ -1,8 +1,8 @@
 -- What the code of a tick does with one task, in its first pass, which judges, and in its second, which moves. No
 -- statement of a public function rests on these definitions: they cut the proof that the passes come to `tick` into the
 -- parts that the source has.
-use Rattle.std.specs.Prelude.{ℕ, zero, suc, ◌+◌, ◌-◌, ◌<◌, ◌≤◌, min, Bool, true, false, cond, not, ◌&&◌, ◌||◌, ltb, leb, eqb}
-use Rattle.std.specs.Prelude.{Option, Some, None, Result, Ok, Err}
+use Rattle.std.specs.Prelude.{ℕ, zero, suc, ◌+◌, ◌-◌, ◌<◌, ◌≤◌, min, Bool, true, false, cond, not, ◌&&◌, ◌||◌}
+use Rattle.std.specs.Prelude.{ltb, leb, eqb, Option, Some, None, Result, Ok, Err}
 use Rattle.std.specs.Int.Bits.{bit_or}
 use Rattle.maths.specs.Tasks.{lowest, every}
 use Rattle.table.specs.declared.Cores.{Cores}
@@ -90,7 +90,7 @@ busy_and b j = record { cores = cores_and b.cores j; held = bit_or b.held j.held
 abbrev pub look_start : Look
 look_start = record { refused = Ok tt; running = busy_none; stays = busy_none }
 
--- of fewer tasks than may be
+-- found of fewer tasks than a table may have, so that one more can be counted
 abbrev pub Fewer : Look → Type 0
 Fewer l = (l.running.cores.0 < most_tasks) × (l.stays.cores.0 < most_tasks)
 
@@ -138,7 +138,7 @@ past_with τ j p = record { row = or_task p.row τ; job = or_job p.job j }
 abbrev pub past_none : Past → Bool
 past_none p = is_no_task p.row && is_no_job p.job
 
--- an entry past n is zero, and all of those up to k
+-- entry k is zero; and all entries past n up to k are
 abbrev pub zero_entry : Machine → ℕ → Bool
 zero_entry m k = is_no_task (τ m.table k) && is_no_job (job m k)
 

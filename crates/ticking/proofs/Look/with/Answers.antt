@@ -8,10 +8,6 @@ use Rattle.ticking.proofs.TickTurns.{admitted, admitted-period, admitted-none}
 use Rattle.ticking.proofs.TickLeft.{look-left}
 use Rattle.ticking.proofs.Look.with.Goals as goal
 
-pub returns-then-not-admits : goal.returns-then-not-admits
-unfolding look_with
-returns-then-not-admits c = rw (sym c.admits.ensures ∙ c.if-not-admits.true)
-
 pub returns-then-is_left : goal.returns-then-is_left
 unfolding look_with
 returns-then-is_left c =
@@ -29,7 +25,3 @@ more-requires-clause-period c =
 pub more-requires-clause-holds : goal.more-requires-clause-holds
 more-requires-clause-holds c =
     admitted-none _ _ _ _ (admitted _ _ _ c.args.self (sym c.admits.ensures ∙ c.if-not-admits.false))
-
-pub returns : goal.returns
-unfolding look_with
-returns c = rw (sym c.admits.ensures ∙ c.if-not-admits.false) (ap Ok c.more.ensures)

@@ -1,9 +1,7 @@
-use mathlib.Core.Path.{◌≡◌, sym, ◌∙◌, ap}
+use mathlib.Core.Path.{sym, ◌∙◌, ap}
 use native.Mathlib.Numerals.{add-one}
-use native.Mathlib.Omega.{arith}
 use borrow.Author.Tests.{ltb-true}
 use borrow.Author.Rules.{rules}
-use Rattle.table.specs.Limits.{most_tasks}
 use Rattle.ticking.specs.Code.Passes.{task_or_none}
 use Rattle.ticking.proofs.TickRules.{above-none, above-found, above-past, none_above}
 use Rattle.ticking.proofs.Report.first_above.Goals as goal
@@ -24,8 +22,3 @@ returns-then-names c =
 pub loop-i-preserved : goal.loop-i-preserved
 loop-i-preserved c =
     above-past _ c.args.n c.loop-i.i (search rules) c.loop-i.invariant (sym c.names.ensures ∙ c.if-names.false)
-
-pub returns : goal.returns
-returns c =
-    let at-end : c.loop-i.i ≡ most_tasks = omega arith in
-    rw (rw at-end at c.loop-i.invariant)

@@ -1,5 +1,4 @@
 use mathlib.Core.Path.{sym, ◌∙◌}
-use Rattle.ticking.specs.Code.Passes.{walk_with}
 use Rattle.ticking.proofs.TickLeft.{walk-left}
 use Rattle.ticking.proofs.Walk.with.Goals as goal
 
@@ -7,15 +6,3 @@ pub returns-then-is_left : goal.returns-then-is_left
 returns-then-is_left c =
     c.by.ensures
     ∙ rw c.older.ensures (walk-left _ _ _ _ _ (sym c.is_left.ensures ∙ c.if-is_left.true) _)
-
-pub returns : goal.returns
-unfolding walk_with
-returns c =
-    rw (
-      c.begin.ensures,
-      c.released_job-job.ensures,
-      c.releases.ensures,
-      c.late_bit.ensures,
-      c.ended-ended.ensures,
-      c.finishes.ensures,
-    )

@@ -1,6 +1,5 @@
-use mathlib.Core.Path.{◌≡◌, ◌∙◌, ap}
+use mathlib.Core.Path.{◌∙◌, ap}
 use native.Mathlib.Omega.{arith}
-use Rattle.table.specs.Limits.{most_tasks}
 use Rattle.ticking.specs.Code.Passes.{past_none}
 use Rattle.ticking.proofs.TickJudge.{zero-none, zero_more}
 use Rattle.ticking.proofs.judging.rest_is_zero.Goals as goal
@@ -12,8 +11,3 @@ pub loop-i-preserved : goal.loop-i-preserved
 loop-i-preserved c =
     ap past_none c.with-past.ensures
     ∙ zero_more c.args.m.now c.loop-i.i c.loop-i.past (omega arith) c.loop-i.invariant
-
-pub returns : goal.returns
-returns c =
-    let at-end : c.loop-i.i ≡ most_tasks = omega arith in
-    c.is_none.ensures ∙ (rw at-end at c.loop-i.invariant)

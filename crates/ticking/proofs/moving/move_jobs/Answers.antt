@@ -6,9 +6,8 @@ use Prim.Native.Nat.{◌<◌}
 use Rattle.table.specs.Limits.{most_tasks}
 use Rattle.machine.specs.declared.Machine.{Machine}
 use Rattle.ticking.specs.Code.Passes.{walk_start, turn_of}
-use Rattle.ticking.proofs.TickCode.{judged-accepts, judged-busy, machine-none, turn-is, machine-more, turn-period}
+use Rattle.ticking.proofs.TickCode.{judged-moves, judged-busy, machine-none, turn-is, machine-more, turn-period}
 use Rattle.ticking.proofs.TickCode.{turns-more}
-use Rattle.ticking.proofs.TickJudge.{accepts}
 use Rattle.ticking.proofs.TickSteps.{moved-is, started_so, late_so}
 use Rattle.ticking.proofs.TickWalk.{walk_none}
 use Rattle.ticking.proofs.moving.move_jobs.Goals as goal
@@ -27,32 +26,32 @@ pub of-requires : goal.of-requires
 of-requires c =
     let m = c.args.m.now in
     let rows : length m.table.rows ≡ most_tasks = c.full_lists.ensures.rows in
-    let a = accepts m _ _ rows (judged-accepts m _ _ _ c.requires) in
+    let a = judged-moves m _ _ rows _ c.requires in
     omega (arith, a.good.table.sizes.few)
 
 pub with-walk-requires : goal.with-walk-requires
 with-walk-requires c =
     let m = c.args.m.now in
     let rows : length m.table.rows ≡ most_tasks = c.full_lists.ensures.rows in
-    let yes = judged-accepts m _ _ _ c.requires in
-    let few : c.loop-i.i < most_tasks = omega (arith, (accepts m _ _ rows yes).good.table.sizes.few) in
+    let a = judged-moves m _ _ rows _ c.requires in
+    let few : c.loop-i.i < most_tasks = omega (arith, a.good.table.sizes.few) in
     let turn = c.of.ensures
     ∙ (ap (λ (z : Machine). turn_of z c.loop-i.i) c.loop-i.invariant.stored
     ∙ turn-is m c.args.report.released c.args.report.finished c.loop-i.i few) in
-    rw turn (turn-period m c.args.report.released c.args.report.finished c.loop-i.i few (search rules) rows yes)
+    rw turn (turn-period m c.args.report.released c.args.report.finished c.loop-i.i few (search rules) a)
 
 pub offset_bounds-m-i : goal.offset_bounds-m-i
 offset_bounds-m-i c =
     let m = c.args.m.now in
     let rows : length m.table.rows ≡ most_tasks = c.full_lists.ensures.rows in
-    let a = accepts m _ _ rows (judged-accepts m _ _ _ c.requires) in
+    let a = judged-moves m _ _ rows _ c.requires in
     omega (arith, a.good.table.sizes.few)
 
 pub bounds-m-i : goal.bounds-m-i
 bounds-m-i c =
     let m = c.args.m.now in
     let rows : length m.table.rows ≡ most_tasks = c.full_lists.ensures.rows in
-    let a = accepts m _ _ rows (judged-accepts m _ _ _ c.requires) in
+    let a = judged-moves m _ _ rows _ c.requires in
     omega (arith, a.good.table.sizes.few)
 
 pub loop-i-preserved : goal.loop-i-preserved
@@ -62,7 +61,7 @@ loop-i-preserved c =
     let F = c.args.report.finished in
     let rows : length m.table.rows ≡ most_tasks = c.full_lists.ensures.rows in
     let few : c.loop-i.i < most_tasks =
-    omega (arith, (accepts m _ _ rows (judged-accepts m _ _ _ c.requires)).good.table.sizes.few) in
+    omega (arith, (judged-moves m _ _ rows _ c.requires).good.table.sizes.few) in
     let turn = c.of.ensures ∙ ap (λ (z : Machine). turn_of z c.loop-i.i) c.loop-i.invariant.stored in
     let next = turns-more m R F c.loop-i.i few _ turn _ c.loop-i.invariant.walked _ c.with-walk.ensures in
     record {
@@ -76,7 +75,7 @@ returns-clause-late c =
     let rows : length m.table.rows ≡ most_tasks = c.full_lists.ensures.rows in
     let at-end : c.loop-i.i ≡ m.table.n = omega arith in
     rw (c.loop-i.invariant.walked, at-end)
-    (sym (late_so m _ _ (accepts m _ _ rows (judged-accepts m _ _ _ c.requires))))
+    (sym (late_so m _ _ (judged-moves m _ _ rows _ c.requires)))
 
 pub returns-clause-started : goal.returns-clause-started
 returns-clause-started c =
@@ -84,7 +83,7 @@ returns-clause-started c =
     let rows : length m.table.rows ≡ most_tasks = c.full_lists.ensures.rows in
     let at-end : c.loop-i.i ≡ m.table.n = omega arith in
     rw (c.loop-i.invariant.walked, at-end)
-    (sym (started_so m _ _ (accepts m _ _ rows (judged-accepts m _ _ _ c.requires))))
+    (sym (started_so m _ _ (judged-moves m _ _ rows _ c.requires)))
 
 pub returns-clause-machine : goal.returns-clause-machine
 returns-clause-machine c =
@@ -92,4 +91,4 @@ returns-clause-machine c =
     let rows : length m.table.rows ≡ most_tasks = c.full_lists.ensures.rows in
     let at-end : c.loop-i.i ≡ m.table.n = omega arith in
     rw (c.loop-i.invariant.stored, at-end)
-    (sym (moved-is m _ _ (accepts m _ _ rows (judged-accepts m _ _ _ c.requires))))
+    (sym (moved-is m _ _ (judged-moves m _ _ rows _ c.requires)))

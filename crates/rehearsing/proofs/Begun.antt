@@ -31,12 +31,11 @@ use Rattle.rehearsal.specs.Rehearsal.{released_at, full, late_now, bench_tick, a
 use Rattle.rehearsal.proofs.Benched.{Benched}
 use Rattle.rehearsal.proofs.Counts.{entry-started}
 use Rattle.rehearsal.proofs.Goes.{goes}
-use Rattle.rehearsing.specs.declared.Lane.{Lane}
-use Rattle.rehearsing.proofs.LaneOf.{lane_of}
-use Rattle.rehearsing.proofs.LanesOf.{past_lane, lanes_of}
+use Rattle.rehearsing.specs.declared.lanes.Lane.{Lane}
 use Rattle.rehearsing.proofs.Readied.{before5, good5, few5}
 use Rattle.rehearsing.proofs.Walk.{walk, starts_now}
 use Rattle.rehearsing.proofs.Beginning.{moved_lane}
+use Rattle.rehearsing.specs.Code.Events.{lane_of, lanes_of, past_lane}
 
 -- the machine after step 5 of tick i, as the walk leaves it
 abbrev pub after5 : (L i : ℕ) → Machine → Machine

@@ -1,7 +1,6 @@
 -- The event of tick 0: the lanes are those of a fresh machine, of which all is idle.
 use Prim.Native.Nat.{ℕ, suc, ◌-◌, ◌*◌, ◌<◌, ◌≤◌}
 use mathlib.Core.Path.{◌≡◌, refl, sym, ◌∙◌, ap}
-use mathlib.Core.List.{List}
 use native.Mathlib.Decide.{dec_le}
 use native.Mathlib.Omega.{arith}
 use borrow.Author.Tests.{le-leb, lt-leb}
@@ -28,12 +27,11 @@ use Rattle.rehearsal.specs.Rehearsal.{none_started, rehearsal}
 use Rattle.rehearsal.specs.Bench.{Unrefused}
 use Rattle.rehearsal.proofs.Counts.{entry-none}
 use Rattle.rehearsal.proofs.Kept.{benched-fresh}
-use Rattle.rehearsing.specs.declared.Lane.{Lane}
-use Rattle.rehearsing.specs.declared.Pass.{Pass}
-use Rattle.rehearsing.specs.Code.Lanes.{first_lane, pass_start}
+use Rattle.rehearsing.specs.declared.track.Track.{Track}
+use Rattle.rehearsing.specs.Code.Lanes.{first_lane}
+use Rattle.rehearsing.specs.Code.Tracks.{first_track}
 use Rattle.rehearsing.proofs.LaneLaws.{lane_first}
-use Rattle.rehearsing.proofs.LanesOf.{lanes_of}
-use Rattle.rehearsing.proofs.Events.{Rehearsing}
+use Rattle.rehearsing.specs.Code.Events.{Rehearsing, lanes_of}
 
 module _ (t : Table) (u : Unrefused t) where
   abbrev f : Machine
@@ -87,28 +85,25 @@ module _ (t : Table) (u : Unrefused t) where
           (lane_first (row (τ f.table (suc k))))
       by k l (no h) = rw (lt-leb (suc k) f.table.n (omega arith), entry-none (suc k) (omega arith) l)
 
-  pub rehearsing_none : (L : ℕ) (lanes : List Lane) (p : Pass) → L ≡ multiple t → L ≤ most_multiple
-      → lanes ≡ replicate most_tasks first_lane → p ≡ pass_start t.platform → Rehearsing t L 0 lanes p
+  pub rehearsing_none : (x : Track) → multiple t ≤ most_multiple → x ≡ first_track t.platform → Rehearsing t 0 x
   unfolding rehearsal
-  rehearsing_none L lanes p e l s c =
+  rehearsing_none x l e =
       record {
         unrefused = u;
-        is_multiple = e;
         small = l;
         within = omega arith;
         machine = f;
         started = none_started;
         benched = benched-fresh u;
         table = refl;
-        stored = s ∙ lanes_fresh;
+        stored = ap (λ (y : Track). y.lanes) e ∙ lanes_fresh;
         cores =
-            ap (λ (x : Pass). x.cores.0) c
-            ∙ (ap (λ (x : Platform). x.cores.0) (sym platform-fresh) ∙ sym cores-fresh);
+            ap (λ (y : Track). y.idle.cores.0) e
+            ∙ (ap (λ (y : Platform). y.cores.0) (sym platform-fresh) ∙ sym cores-fresh);
         partitions =
-            ap (λ (x : Pass). x.partitions.0) c
-            ∙ (ap (λ (x : Platform). x.partitions.0) (sym platform-fresh) ∙ sym partitions-fresh);
-        late = ap (λ (x : Pass). x.late) c;
+            ap (λ (y : Track). y.idle.partitions.0) e
+            ∙ (ap (λ (y : Platform). y.partitions.0) (sym platform-fresh) ∙ sym partitions-fresh);
         rest =
-            let all : suc L - 0 ≡ suc L = omega arith in
-            rw (all, e);
+            let all : suc (multiple t) - 0 ≡ suc (multiple t) = omega arith in
+            rw all;
       }

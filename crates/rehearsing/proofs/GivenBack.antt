@@ -28,10 +28,9 @@ use Rattle.rehearsal.proofs.Times.{never}
 use Rattle.rehearsal.proofs.TimesLaws.{is_over}
 use Rattle.rehearsal.proofs.Members.{in_due, sound-row, not_late_lem}
 use Rattle.rehearsal.proofs.Readings.{full-has}
-use Rattle.rehearsing.proofs.Settling.{cores_back, partitions_back}
-use Rattle.rehearsing.proofs.LanesOf.{lanes_of}
 use Rattle.rehearsing.proofs.Readied.{before5, table5, life5, good5}
 use Rattle.rehearsing.proofs.Judged.{over-is}
+use Rattle.rehearsing.specs.Code.Events.{cores_back, lanes_of, partitions_back}
 
 -- a job that finishes runs no longer, and one that is released did not run
 runs-less : (row : Row) (top : ℕ) (f d : Bool) (x : Life) → f ≡ is_over row x

@@ -28,13 +28,13 @@ use Rattle.rehearsal.proofs.Members.{in_due, sound-row, not_late_lem}
 use Rattle.rehearsal.proofs.Readings.{within-c, full-has}
 use Rattle.rehearsal.proofs.Happens.{finishes, is-late}
 use Rattle.rehearsal.proofs.Ends.{late-none}
-use Rattle.rehearsing.specs.declared.Lane.{Lane}
-use Rattle.rehearsing.specs.Code.Lanes.{no_lane, lane_is_late, settled_lane, starts_of}
-use Rattle.rehearsing.proofs.LaneOf.{lane_of}
+use Rattle.rehearsing.specs.declared.lanes.Lane.{Lane}
+use Rattle.rehearsing.specs.Code.Lanes.{no_lane, lane_is_late, settled_lane}
+use Rattle.rehearsing.specs.Code.Tracks.{starts_of}
 use Rattle.rehearsing.proofs.LaneLaws.{lane_settled}
-use Rattle.rehearsing.proofs.LanesOf.{lanes_of, lane_in, lane-started}
-use Rattle.rehearsing.proofs.Settling.{settled_at}
+use Rattle.rehearsing.proofs.LanesOf.{lane_in, lane-started}
 use Rattle.rehearsing.proofs.Readied.{before5, table5, life5}
+use Rattle.rehearsing.specs.Code.Events.{lane_of, lanes_of, settled_at}
 
 abbrev settled_lanes : ℕ → Machine → List ℕ → ℕ → Lane
 settled_lanes i m s = settled_at m.table i (lanes_of i m s)
@@ -43,21 +43,25 @@ module _ {i : ℕ} {m : Machine} {s : List ℕ} (b : Benched i m s) where
   abbrev n : ℕ
   n = m.table.n
 
-  -- the started jobs are counted by the second pass alone
-  settled_started : (k : ℕ) → (cond (leb k n) (settled_lanes i m s k) (lanes_of i m s k)).started ≡ entry s k 0
-  settled_started k = by (leb k n) ∙ lane-started i m s k
-    where
-      by : (b : Bool) → (cond b (cond b (settled_lane i (τ m.table k) (lanes_of i m s k)) (lanes_of i m s k))
-          (lanes_of i m s k)).started ≡ (lanes_of i m s k).started
-      by true = refl
-      by false = refl
+  -- the started jobs are counted by the second pass alone, so that they stay as they are from turn to turn
+  module _ (turns : ℕ) where
+    settled_started : (k : ℕ)
+        → (cond (leb k turns) (settled_lanes i m s k) (lanes_of i m s k)).started ≡ entry s k 0
+    settled_started k = by (leb k turns) (leb k n) ∙ lane-started i m s k
+      where
+        by : (b c : Bool) → (cond b (cond c (settled_lane i (τ m.table k) (lanes_of i m s k)) (lanes_of i m s k))
+            (lanes_of i m s k)).started ≡ (lanes_of i m s k).started
+        by true true = refl
+        by true false = refl
+        by false c = refl
 
-  pub starts-stay : starts_of (up_to most_tasks (settled_lanes i m s) (lanes_of i m s) n) ≡ s
-  starts-stay =
-      tabulate-ext (λ k. (entry (up_to most_tasks (settled_lanes i m s) (lanes_of i m s) n) k no_lane).started)
-      (λ k. entry s k 0) most_tasks
-      (λ k l. ap (λ (x : Lane). x.started) (get_d_tabulate _ most_tasks k no_lane l) ∙ settled_started (suc k))
-      ∙ tabulate-entry s most_tasks 0 b.entries
+    pub starts-stay : starts_of (up_to most_tasks (settled_lanes i m s) (lanes_of i m s) turns) ≡ s
+    starts-stay =
+        tabulate-ext
+        (λ k. (entry (up_to most_tasks (settled_lanes i m s) (lanes_of i m s) turns) k no_lane).started)
+        (λ k. entry s k 0) most_tasks
+        (λ k l. ap (λ (x : Lane). x.started) (get_d_tabulate _ most_tasks k no_lane l) ∙ settled_started (suc k))
+        ∙ tabulate-entry s most_tasks 0 b.entries
 
   module _ (soon : i < never) where
     pub over-is : (k : ℕ) → k < n → eqb (lanes_of i m s (suc k)).ends i ≡ has_task (full m) (suc k)

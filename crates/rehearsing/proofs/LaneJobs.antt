@@ -15,8 +15,8 @@ use Rattle.conduct.specs.Lives.{life}
 use Rattle.conduct.proofs.Lives.{one, shows, life-begun}
 use Rattle.rehearsal.proofs.Times.{never}
 use Rattle.rehearsing.specs.Code.Lanes.{lane_waits, begun_lane}
-use Rattle.rehearsing.proofs.LaneOf.{lane_of}
 use Rattle.rehearsing.proofs.LaneLaws.{lane-waits, lane-begun}
+use Rattle.rehearsing.specs.Code.Events.{lane_of}
 
 module _ (i s : ℕ) (τ : Task) (j : Job) where
   pub job-waits : i + D τ < never → C τ ≤ D τ → lane_waits (lane_of i (row τ) (life j) s) ≡ is_waiting j.stage

@@ -17,9 +17,9 @@ use Rattle.rehearsal.proofs.Benched.{OnBench}
 use Rattle.rehearsal.proofs.OnBench.{due-now, rested}
 use Rattle.rehearsal.proofs.Times.{never, times_of, NothingBefore}
 use Rattle.rehearsal.proofs.TimesLaws.{is_over, over-read, due-read}
-use Rattle.rehearsing.specs.declared.Lane.{Lane}
+use Rattle.rehearsing.specs.declared.lanes.Lane.{Lane}
 use Rattle.rehearsing.specs.Code.Lanes.{first_lane, lane_waits, settled_lane, begun_lane, next_of}
-use Rattle.rehearsing.proofs.LaneOf.{lane_of}
+use Rattle.rehearsing.specs.Code.Events.{lane_of}
 
 same-lane : {a b : Lane} → a.due ≡ b.due → a.late ≡ b.late → a.ends ≡ b.ends → a.started ≡ b.started → a ≡ b
 same-lane d l e s = λ j. record { due = d j; late = l j; ends = e j; started = s j }

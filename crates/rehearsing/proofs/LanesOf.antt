@@ -18,18 +18,9 @@ use Rattle.machine.specs.declared.Machine.{Machine}
 use Rattle.machine.specs.Jobs.{job}
 use Rattle.conduct.specs.Lives.{life}
 use Rattle.rehearsal.proofs.Happens.{times}
-use Rattle.rehearsal.proofs.Times.{never, Times}
-use Rattle.rehearsing.specs.declared.Lane.{Lane}
-use Rattle.rehearsing.proofs.LaneOf.{lane_of}
-
-abbrev pub past_lane : ℕ → Lane
-past_lane s = record { due = 0; late = never; ends = never; started = s }
-
-abbrev pub lanes_of : ℕ → Machine → List ℕ → ℕ → Lane
-lanes_of i m s k =
-    cond (leb k m.table.n)
-    (lane_of i (row (τ m.table k)) (life (job m k)) (entry s k 0))
-    (past_lane (entry s k 0))
+use Rattle.rehearsal.proofs.Times.{Times}
+use Rattle.rehearsing.specs.Code.Events.{lane_of, lanes_of, past_lane}
+use Rattle.rehearsing.specs.Code.Events.{lane_of, lanes_of, past_lane}
 
 module _ (i : ℕ) (m : Machine) (s : List ℕ) where
   pub lane_in : (k : ℕ) → k < m.table.n

@@ -1,4 +1,3 @@
-pub mod LaneOf
 pub mod LaneLaws
 pub mod LaneJobs
 pub mod LanesOf

@@ -2,6 +2,7 @@
 -- leapt over, and the next event is there.
 use Prim.Native.Nat.{ℕ, suc, ◌-◌, ◌<◌, ◌≤◌}
 use mathlib.Core.Path.{◌≡◌, sym, subst, ◌∙◌, ap}
+use mathlib.Core.Bool.{Bool}
 use mathlib.Core.List.{List}
 use native.Mathlib.Omega.{arith}
 use lib.ListN.{get_or}
@@ -17,7 +18,7 @@ use Rattle.admission.specs.Test.{row}
 use Rattle.machine.specs.declared.Machine.{Machine}
 use Rattle.machine.specs.Jobs.{job, idle_cores, idle_partitions}
 use Rattle.conduct.specs.Lives.{life}
-use Rattle.rehearsal.specs.Multiple.{Common}
+use Rattle.rehearsal.specs.Multiple.{multiple, Common}
 use Rattle.rehearsal.specs.Rehearsal.{bench_tick, and_started, from, rehearsal}
 use Rattle.rehearsal.proofs.Benched.{Benched}
 use Rattle.rehearsal.proofs.Times.{never, NothingBefore}
@@ -25,23 +26,26 @@ use Rattle.rehearsal.proofs.From.{from_on}
 use Rattle.rehearsal.proofs.Happens.{times, due-by, none-past}
 use Rattle.rehearsal.proofs.Kept.{kept}
 use Rattle.rehearsal.proofs.Leap.{Leapt, leap}
-use Rattle.rehearsing.specs.declared.Lane.{Lane}
-use Rattle.rehearsing.specs.declared.Pass.{Pass}
+use Rattle.rehearsing.specs.declared.lanes.Lane.{Lane}
+use Rattle.rehearsing.specs.declared.track.Track.{Track}
 use Rattle.rehearsing.specs.Code.Lanes.{next_of}
-use Rattle.rehearsing.proofs.LaneOf.{lane_of}
 use Rattle.rehearsing.proofs.LaneLaws.{next-nothing, nothing-next}
-use Rattle.rehearsing.proofs.LanesOf.{lanes_of, lane_in, lanes_same}
+use Rattle.rehearsing.proofs.LanesOf.{lane_in, lanes_same}
 use Rattle.rehearsing.proofs.Readied.{before5, table5}
 use Rattle.rehearsing.proofs.Walk.{walk}
 use Rattle.rehearsing.proofs.Beginning.{moved_lane}
 use Rattle.rehearsing.proofs.Begun.{after5, after_is, cores-after, partitions-after, begun-lane, begun_lanes}
-use Rattle.rehearsing.proofs.Events.{Rehearsing, common, same-n}
+use Rattle.rehearsing.proofs.Events.{common, same-n}
 use Rattle.rehearsing.proofs.SecondPass.{Starting}
+use Rattle.rehearsing.specs.Code.Events.{Rehearsing, lane_of, lanes_of}
 
-module _ {t : Table} {L i : ℕ} {lanes : List Lane} {p : Pass} {j : ℕ} (s : Starting t L i lanes p j)
+module _ {t : Table} {i : ℕ} {y : Track} {goes : Bool} {next : ℕ} {j : ℕ} (s : Starting t i y goes next j)
     (over : t.n ≤ j) where
-  abbrev h : Rehearsing t L i s.lanes₀ s.pass₀
+  abbrev h : Rehearsing t i s.track₀
   h = s.before
+
+  abbrev L : ℕ
+  L = multiple t
 
   abbrev b : Benched i h.machine h.started
   b = h.benched
@@ -70,7 +74,7 @@ module _ {t : Table} {L i : ℕ} {lanes : List Lane} {p : Pass} {j : ℕ} (s : S
   benched : Benched (suc i) x started
   benched = subst (λ (z : Machine). Benched (suc i) z started) is (kept L b s.calm s.within)
 
-  stored : lanes ≡ tabulate most_tasks (lanes_of (suc i) x started)
+  stored : y.lanes ≡ tabulate most_tasks (lanes_of (suc i) x started)
   stored =
       s.turn.stored ∙ (ap (up_to most_tasks _ _) all-tasks ∙ begun_lanes L b s.calm)
 
@@ -87,15 +91,15 @@ module _ {t : Table} {L i : ℕ} {lanes : List Lane} {p : Pass} {j : ℕ} (s : S
   lane-is k l =
       begun-lane L b s.calm k l ∙ lane_in (suc i) x started k l
 
-  nothing : Each n (λ k. NothingBefore p.next (times (suc i) x k))
+  nothing : Each n (λ k. NothingBefore next (times (suc i) x k))
   nothing =
       each n _ λ k l. next-nothing (suc i) (row (τ x.table (suc k))) (get_or started k 0) (life (job x (suc k)))
-      (subst (λ (z : Lane). p.next ≤ next_of z) (lane-is k l) (s.turn.below k (omega (arith, all-tasks))))
+      (subst (λ (z : Lane). next ≤ next_of z) (lane-is k l) (s.turn.below k (omega (arith, all-tasks))))
 
   soon-after : suc i < never
   soon-after = omega (arith, s.within, h.small)
 
-  pub next-later : suc i ≤ p.next
+  pub next-later : suc i ≤ next
   next-later =
       s.turn.above (suc i) (omega (arith, soon-after)) λ k l.
       let in_n : k < n = omega (arith, all-tasks) in
@@ -103,20 +107,19 @@ module _ {t : Table} {L i : ℕ} {lanes : List Lane} {p : Pass} {j : ℕ} (s : S
       (nothing-next (suc i) (row (τ x.table (suc k))) (get_or started k 0) (life (job x (suc k)))
       (none-past benched (suc k) (omega arith) in_n soon-after))
 
-  next-within : p.next ≤ L
+  next-within : next ≤ L
   next-within =
       let some : 1 ≤ n = benched.good.table.sizes.some in
       let divides : Common x.table L = rw x-table (common h) in
       omega (arith, (nothing 1 (omega arith) some).due, due-by benched 1 (omega arith) some L divides s.within)
 
-  leapt : Leapt L (suc i) p.next x started
+  leapt : Leapt L (suc i) next x started
   leapt = leap benched next-later next-within nothing
 
-  pub next_event : Rehearsing t L p.next lanes p
+  pub next_event : Rehearsing t next y
   next_event =
       record {
         unrefused = h.unrefused;
-        is_multiple = h.is_multiple;
         small = h.small;
         within = next-within;
         machine = leapt.machine;
@@ -125,23 +128,22 @@ module _ {t : Table} {L i : ℕ} {lanes : List Lane} {p : Pass} {j : ℕ} (s : S
         table = leapt.table ∙ (x-table ∙ h.table);
         stored =
             stored
-            ∙ sym (lanes_same p.next (suc i) leapt.machine x started same-tasks
+            ∙ sym (lanes_same next (suc i) leapt.machine x started same-tasks
             (λ k l o. leapt.same_times k l (omega (arith, same-tasks))));
         cores = ap (λ (z : Cores). z.0) (cores ∙ sym leapt.cores);
         partitions = ap (λ (z : Partitions). z.0) (partitions ∙ sym leapt.partitions);
-        late = s.turn.late;
         rest = rest ∙ leapt.goes_on;
       }
     where
       same-tasks : leapt.machine.table.n ≡ n
       same-tasks = ap (λ (u : Table). u.n) leapt.table
 
-      cores : p.cores ≡ idle_cores x
+      cores : y.idle.cores ≡ idle_cores x
       cores =
           s.turn.cores
           ∙ (ap (λ (k : ℕ). (walk r k).cores) all-tasks ∙ cores-after L b s.calm)
 
-      partitions : p.partitions ≡ idle_partitions x
+      partitions : y.idle.partitions ≡ idle_partitions x
       partitions =
           s.turn.partitions
           ∙ (ap (λ (k : ℕ). (walk r k).partitions) all-tasks ∙ partitions-after L b s.calm)

@@ -1,21 +1,23 @@
 // What becomes of one task at a tick.
-ghost use Rattle.std.specs.Prelude.{◌≡◌, ◌≤◌, min};
-ghost use Rattle.table.specs.Limits.{longest_period};
-ghost use Rattle.table.specs.Tasks.{D, T, C};
+ghost use Rattle.std.specs.Prelude.{◌≡◌, ◌≤◌};
 ghost use Rattle.rehearsal.specs.Multiple.{most_multiple};
-ghost use Rattle.rehearsal.proofs.Times.{never};
-ghost use Rattle.rehearsing.specs.Code.Lanes.{first_lane, lane_waits, lane_rests, settled_lane, begun_lane, next_of};
+ghost use Rattle.rehearsing.specs.Code.Lanes.{Small, first_lane, lane_is_late, lane_waits, lane_rests};
+ghost use Rattle.rehearsing.specs.Code.Lanes.{settled_lane, begun_lane, next_of};
 
-use crate::Lane;
 use table::Task;
 
-// Later than any tick of a rehearsal.
-pub(crate) const NEVER: u32 = 4_294_967_295;
+// Later than any tick of a rehearsal. A number, and no `Option<u32>` for `late` and `ends`: the passes compare them at
+// every event, and take 1.3 to 1.45 times the instructions with it, over the bar of 1.3 times plain C.
+pub(crate) const NEVER: u32 = u32::MAX;
 
-pub(crate) fn sooner(a: u32, b: u32) -> u32
-    ensures { result ≡ min a b }
-{
-    if a < b { a } else { b }
+// A task on the bench, by the ticks at which something becomes of it: its next release, the tick at which its
+// unfinished job is late, the tick at which its running job has run C. And how many jobs it started.
+#[derive(Clone, Copy)]
+pub(crate) struct Lane {
+    pub(crate) due: u32,
+    pub(crate) late: u32,
+    pub(crate) ends: u32,
+    pub(crate) started: u32,
 }
 
 impl Lane {
@@ -31,60 +33,54 @@ impl Lane {
         }
     }
 
-    pub(crate) fn waits(self) -> bool
-        ensures { result ≡ lane_waits self }
+    pub(crate) fn is_late(&self, i: u32) -> bool
+        ensures { result ≡ lane_is_late i self.now }
     {
-        if self.late == NEVER {
-            return false;
-        }
-        self.ends == NEVER
+        self.ends != i && self.late == i
+    }
+
+    pub(crate) fn waits(&self) -> bool
+        ensures { result ≡ lane_waits self.now }
+    {
+        self.late != NEVER && self.ends == NEVER
     }
 
     // Nothing becomes of it at tick i, before step 5.
-    pub(crate) fn rests(self, i: u32) -> bool
-        ensures { result ≡ lane_rests i self }
+    pub(crate) fn rests(&self, i: u32) -> bool
+        ensures { result ≡ lane_rests i self.now }
     {
-        if self.due == i {
-            return false;
-        }
-        if self.late == i {
-            return false;
-        }
-        self.ends != i
+        self.due != i && self.late != i && self.ends != i
     }
 
     // Steps 2 and 4 of tick i: a job that has run C finishes, and a task that is due is released.
-    pub(crate) fn settled(self, i: u32, task: Task) -> Lane
-        requires { (i ≤ most_multiple) × (T task ≤ longest_period) × (D task ≤ longest_period) }
-        ensures { result ≡ settled_lane i task self }
+    pub(crate) fn settle(&mut self, i: u32, task: &Task)
+        requires { Small i task.now }
+        ensures { self.new ≡ settled_lane i task.now self.old }
     {
-        let mut lane = self;
         if self.ends == i {
-            lane.late = NEVER;
-            lane.ends = NEVER;
+            self.late = NEVER;
+            self.ends = NEVER;
         }
         if self.due == i {
-            lane.due = i + task.t;
-            lane.late = i + task.d;
+            self.due = i + task.t;
+            self.late = i + task.d;
         }
-        lane
     }
 
     // Step 5 of tick i: its job starts.
-    pub(crate) fn begun(self, i: u32, task: Task) -> Lane
-        requires { (i ≤ most_multiple) × (C task ≤ longest_period) × (self.started ≤ most_multiple) }
-        ensures { result ≡ begun_lane i task self }
+    pub(crate) fn begin(&mut self, i: u32, task: &Task)
+        requires row { Small i task.now }
+        requires started { self.old.started ≤ most_multiple }
+        ensures { self.new ≡ begun_lane i task.now self.old }
     {
-        let mut lane = self;
-        lane.ends = i + task.c;
-        lane.started = self.started + 1;
-        lane
+        self.ends = i + task.c;
+        self.started += 1;
     }
 
     // The first tick at which something becomes of it.
-    pub(crate) fn next(self) -> u32
-        ensures { result ≡ next_of self }
+    pub(crate) fn next(&self) -> u32
+        ensures { result ≡ next_of self.now }
     {
-        sooner(self.due, sooner(self.late, self.ends))
+        self.due.min(self.late.min(self.ends))
     }
 }

@@ -1,17 +1,20 @@
--- What the code of a rehearsal does with one task. No statement rests on these definitions: they cut the proof that
--- `rehearse` comes to `rehearsed` into the parts that the source has.
-use Rattle.std.specs.Prelude.{ℕ, ◌+◌, ◌-◌, min, Bool, true, false, cond, not, ◌&&◌, List, eqb}
-use Rattle.maths.specs.Tasks.{or_else, tabulate, entry}
-use Rattle.table.specs.declared.Platform.{Platform}
-use Rattle.table.specs.declared.Refusal.{Refusal}
+-- What the code of a rehearsal does with the lane of one task. No statement rests on these definitions: they cut the
+-- proof that `rehearse` comes to `rehearsed` into the parts that the source has.
+use Rattle.std.specs.Prelude.{ℕ, ◌+◌, ◌≤◌, min, Bool, cond, not, ◌&&◌, eqb}
 use Rattle.table.specs.declared.Task.{Task}
-use Rattle.table.specs.Limits.{most_tasks}
+use Rattle.table.specs.Limits.{most_partitions, longest_period}
 use Rattle.table.specs.Tasks.{D, T, C, A}
-use Rattle.machine.specs.Steps.{fits_in}
-use Rattle.rehearsal.specs.declared.Rehearsal.{Rehearsal}
+use Rattle.rehearsal.specs.Multiple.{most_multiple}
 use Rattle.rehearsal.proofs.Times.{never}
-use Rattle.rehearsing.specs.declared.Lane.{Lane}
-use Rattle.rehearsing.specs.declared.Pass.{Pass}
+use Rattle.rehearsing.specs.declared.lanes.Lane.{Lane}
+
+-- what the code asks of a tick and a row: they are those of a table that is rehearsed, so that no sum wraps
+pub record Small (i : ℕ) (τ : Task) : Type 0 where
+  pub tick : i ≤ most_multiple
+  pub period : T τ ≤ longest_period
+  pub deadline : D τ ≤ longest_period
+  pub run : C τ ≤ longest_period
+  pub need : A τ ≤ most_partitions
 
 -- what an array of lanes has past its end
 abbrev pub no_lane : Lane
@@ -46,85 +49,3 @@ begun_lane i τ x = record { due = x.due; late = x.late; ends = i + C τ; starte
 
 abbrev pub next_of : Lane → ℕ
 next_of x = min x.due (min x.late x.ends)
-
-abbrev pub pass_start : Platform → Pass
-pass_start platform =
-    record {
-      lane = first_lane;
-      cores = platform.cores;
-      partitions = platform.partitions;
-      late = 0;
-      goes = true;
-      next = never;
-    }
-
--- steps 1 to 4 of tick i, of task k more
-unfoldable pub pass_settle : ℕ → ℕ → Task → Lane → Pass → Pass
-pass_settle i k τ x p =
-    record {
-      lane = settled_lane i τ x;
-      cores = record { 0 = p.cores.0 + cond (eqb x.ends i) 1 0 };
-      partitions = record { 0 = p.partitions.0 + cond (eqb x.ends i) (A τ) 0 };
-      late = or_else p.late (cond (lane_is_late i x) k 0);
-      goes = p.goes;
-      next = p.next;
-    }
-
--- tick i of l is the last
-abbrev pub pass_ends : ℕ → ℕ → Pass → Bool
-pass_ends i l p = cond (eqb p.late 0) (eqb i l) true
-
-abbrev pub late_tick : ℕ → Pass → ℕ
-late_tick i p = cond (eqb p.late 0) 0 i
-
-abbrev pub pass_opened : Pass → Pass
-pass_opened p =
-    record {
-      lane = p.lane;
-      cores = p.cores;
-      partitions = p.partitions;
-      late = p.late;
-      goes = true;
-      next = never;
-    }
-
--- step 5 goes on, and the task waits
-abbrev pub tries : Lane → Pass → Bool
-tries x p = p.goes && lane_waits x
-
-abbrev pub has_room : Task → Pass → Bool
-has_room τ p = fits_in p.cores p.partitions τ
-
-abbrev pub pass_by : Bool → Lane → Pass → Pass
-pass_by goes x p =
-    record {
-      lane = x;
-      cores = p.cores;
-      partitions = p.partitions;
-      late = p.late;
-      goes = goes;
-      next = min p.next (next_of x);
-    }
-
-abbrev pub pass_go : ℕ → Task → Lane → Pass → Pass
-pass_go i τ x p =
-    record {
-      lane = begun_lane i τ x;
-      cores = record { 0 = p.cores.0 - 1 };
-      partitions = record { 0 = p.partitions.0 - A τ };
-      late = p.late;
-      goes = p.goes;
-      next = min p.next (next_of (begun_lane i τ x));
-    }
-
--- step 5 of tick i, of one task more: it starts, or the step ends with it, or it is not its turn
-unfoldable pub pass_begin : ℕ → Task → Lane → Pass → Pass
-pass_begin i τ x p =
-    cond (tries x p) (cond (has_room τ p) (pass_go i τ x p) (pass_by false x p)) (pass_by p.goes x p)
-
--- how many jobs the task of each lane started
-abbrev pub starts_of : List Lane → List ℕ
-starts_of lanes = tabulate most_tasks (λ k. (entry lanes k no_lane).started)
-
-abbrev pub ended : Refusal → ℕ → ℕ → List Lane → Rehearsal
-ended refused tick task lanes = record { refused = refused; tick = tick; task = task; started = starts_of lanes }

@@ -1,4 +1,0 @@
-use Rattle.rehearsing.proofs.Pass.by.Goals as goal
-
-pub returns : goal.returns
-returns c = rw (c.sooner.ensures, c.next.ensures)

@@ -6,6 +6,7 @@ use mathlib.Core.List.{List}
 use native.Mathlib.Omega.{arith}
 use lib.Dec.{eqb}
 use lib.ListN.{length}
+use Rattle.std.specs.Prelude.{Option}
 use Rattle.forms.specs.Forms.{ticks_form}
 use Rattle.forms.specs.Reads.{Answer, found, refused}
 use Rattle.forms.proofs.Sizes.{text-least}
@@ -21,19 +22,19 @@ use Rattle.texts.proofs.Sizes.{bad-most, table-most, listed-most}
 use Rattle.runs.specs.Ticks.{run_text, ran, ticks_text, ticks_most, TicksFit}
 use Rattle.runs.proofs.Widths.{rows-most}
 
-module _ (there : Bool) (bytes : List ℕ) where
-  run_fits : (t : Table) (rows : List (List ℕ)) → taken ticks_form there bytes ≡ found rows
+module _ (text : Option (List ℕ)) where
+  run_fits : (t : Table) (rows : List (List ℕ)) → taken ticks_form text ≡ found rows
       → length (run_text (fresh t) rows) ≤ ticks_most
   run_fits t rows e =
-      let k = taken-found ticks_form there bytes rows e in
-      let w = written ticks_form bytes rows k.0 in
+      let k = taken-found ticks_form text rows e in
+      let w = written ticks_form k.0 rows k.2 in
       let size = ap length w.1 in
       let least = text-least ticks_form rows w.0.each in
-      omega (arith, k.1, rows-most rows (fresh t) (omega (arith, k.1)) w.0.each)
+      omega (arith, k.3, rows-most rows (fresh t) (omega (arith, k.3)) w.0.each)
 
-  ran-fits : (t : Table) → length t.rows ≡ most_tasks → (x : Answer (List (List ℕ))) → taken ticks_form there bytes ≡ x
+  ran-fits : (t : Table) → length t.rows ≡ most_tasks → (x : Answer (List (List ℕ))) → taken ticks_form text ≡ x
       → length (ran x t) ≤ ticks_most
-  ran-fits t len (refused k) e = omega (arith, bad-most ticks_form there bytes k e)
+  ran-fits t len (refused k) e = omega (arith, bad-most ticks_form text k e)
   ran-fits t len (found rows) e = go (eqb (refusal t).number 0)
     where
       go : (b : Bool) → length (cond b (run_text (fresh t) rows) (refused_text (refusal t))) ≤ ticks_most
@@ -42,6 +43,6 @@ module _ (there : Bool) (bytes : List ℕ) where
 
 pub ticks_fit : TicksFit
 unfolding ticks_text
-ticks_fit pThere p tThere t kThere k =
-    let reports = taken ticks_form kThere k in
-    listed-most (ran reports) ticks_most (omega arith) (λ t len. ran-fits kThere k t len reports refl) pThere p tThere t
+ticks_fit platform tasks ticks =
+    let reports = taken ticks_form ticks in
+    listed-most (ran reports) ticks_most (omega arith) (λ t len. ran-fits ticks t len reports refl) platform tasks

@@ -1,7 +1,7 @@
 -- What the program "ticks" writes, from its three texts, each there or missing: a row for each tick, on the machine
 -- that the ticks before it left, or the refusal. Platform, tasks and ticks text are tried in that order before any
 -- number of the table is judged.
-use Rattle.std.specs.Prelude.{ℕ, suc, ◌+◌, ◌-◌, ◌*◌, ◌/◌, ◌≤◌, Bool, cond, List, [], ◌∷◌, eqb, length}
+use Rattle.std.specs.Prelude.{ℕ, suc, ◌+◌, ◌-◌, ◌*◌, ◌/◌, ◌≤◌, Option, cond, List, [], ◌∷◌, eqb, length}
 use Rattle.forms.specs.Forms.{ticks_form}
 use Rattle.forms.specs.Reads.{Answer, found, refused}
 use Rattle.table.specs.declared.Refusal.{Refusal}
@@ -41,9 +41,8 @@ abbrev pub ran : Answer (List (List ℕ)) → Table → List ℕ
 ran (refused offset) t = refused_text (bad_text offset)
 ran (found rows) t = cond (unrefused t) (run_text (fresh t) rows) (refused_text (refusal t))
 
-unfoldable pub ticks_text : Bool → List ℕ → Bool → List ℕ → Bool → List ℕ → List ℕ
-ticks_text platformThere platform tasksThere tasks ticksThere ticks =
-    listed (ran (taken ticks_form ticksThere ticks)) platformThere platform tasksThere tasks
+unfoldable pub ticks_text : Option (List ℕ) → Option (List ℕ) → Option (List ℕ) → List ℕ
+ticks_text platform tasks ticks = listed (ran (taken ticks_form ticks)) platform tasks
 
 -- A listing of so many ticks is no longer: a header of 36 bytes, and five numbers of at most 20 digits, four commas and
 -- CR LF for each.
@@ -56,6 +55,4 @@ ticks_most = listing_most ((longest - first_tick) / 5)
 
 -- Refusal 16 cannot come up in the program: whatever its texts, there or missing, however long.
 abbrev pub TicksFit : Type 0
-TicksFit =
-    (platformThere : Bool) (platform : List ℕ) (tasksThere : Bool) (tasks : List ℕ) (ticksThere : Bool) (ticks : List ℕ)
-    → length (ticks_text platformThere platform tasksThere tasks ticksThere ticks) ≤ ticks_most
+TicksFit = (platform tasks ticks : Option (List ℕ)) → length (ticks_text platform tasks ticks) ≤ ticks_most

@@ -2,11 +2,15 @@
 // limit, or the refusal.
 #![tactic(auto)]
 
+ghost use Rattle.std.specs.Prelude.{◌≡◌};
+ghost use Rattle.table.specs.Refused.{no_refusal};
+ghost use Rattle.files.specs.Got.{Whole};
 ghost use Rattle.shares.specs.Explain.{explain_most, explain_text};
 ghost use Rattle.shares.proofs.Sizes.{explain-fits};
 
 use files::Listing;
 use std::io;
+use std::rt::Files;
 use texts::UnitTexts;
 use writers::Written;
 
@@ -26,8 +30,15 @@ impl Listing for Explain {
     ghost fits = { explain-fits };
 }
 
+// What the files give, and how long it is. The buffer is never too short.
+fn put_listing<R: Files>(rt: &R, out: &mut [u8; LISTING]) -> Written
+    ensures { (result.refused ≡ no_refusal) × Whole result.length out.new }
+{
+    files::put_listing::<Explain, R>(rt, out)
+}
+
 fn main(rt: HostRuntime) -> io::Result<()> {
     let mut out = [0u8; LISTING];
-    let listing = files::put_listing::<Explain, _>(&rt, &mut out);
+    let listing = put_listing(&rt, &mut out);
     rt.write_all(&out[..listing.length])
 }

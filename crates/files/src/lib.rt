@@ -68,10 +68,11 @@ pub trait Listing {
     ghost fits: { (platform tasks : Option (List ℕ)) → length (text platform tasks) ≤ most };
 }
 
-// What the files give, and how long it is. The buffer is never too short. The texts lie in fixed memory: no heap.
+// What the files give, and how long it is: refused only where the buffer is shorter than the listing can be. The texts
+// lie in fixed memory: no heap.
 pub fn put_listing<L: Listing, R: Files>(rt: &R, out: &mut [u8]) -> Written
-    requires { L.most ≤ length out.old }
-    ensures { (result.refused ≡ no_refusal) × Whole result.length out.new }
+    ensures fits { L.most ≤ length out.old → result.refused ≡ no_refusal }
+    ensures whole { Whole result.length out.new }
 {
     let mut platform = [0u8; ROOM];
     let mut tasks = [0u8; ROOM];

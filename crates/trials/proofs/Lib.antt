@@ -1,3 +1,4 @@
 pub mod Trials
 pub mod Sizes
+pub mod Answers
 pub mod Determined

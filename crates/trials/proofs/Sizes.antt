@@ -1,5 +1,5 @@
 -- What the program "rehearse" writes has room in its buffer.
-use Prim.Native.Nat.{◌≤◌}
+use Prim.Native.Nat.{ℕ, ◌≤◌}
 use mathlib.Core.Path.{◌≡◌, sym, ap, ◌∙◌}
 use mathlib.Core.Logic.{◌≢◌}
 use native.Mathlib.Decide.{ℕ_discrete}
@@ -17,8 +17,7 @@ use Rattle.rehearsal.specs.Multiple.{multiple, most_multiple}
 use Rattle.rehearsal.specs.Rehearsal.{rehearsal, rehearsed}
 use Rattle.rehearsal.proofs.Answers.{went, Answered, own, large, ticked, answered}
 use Rattle.rehearsal.proofs.Sizes.{bounded-rehearsal}
-use Rattle.trials.specs.Code.Trials.{Fits}
-use Rattle.trials.specs.Rehearse.{tried, rehearse_text, rehearse_most, RehearseFits}
+use Rattle.trials.specs.Rehearse.{trial_text, tried, rehearse_text, rehearse_most, RehearseFits}
 use Rattle.trials.proofs.Trials.{tried-refused, tried-listed, Narrow, trial_most}
 
 -- no number of a rehearsal has more than ten digits
@@ -26,6 +25,11 @@ narrow : (t : Table) → multiple t ≤ most_multiple → Narrow (went no_refusa
 narrow t most =
     let b = bounded-rehearsal t in
     record { tick = omega (arith, b.tick); started = λ k l. omega (arith, b.starts k l) }
+
+-- at most 32 tasks, whose listing has room in the buffer
+pub record Fits (n : ℕ) (r : Rehearsal) : Type 0 where
+  pub few : n ≤ most_tasks
+  pub room : length (trial_text n r) ≤ rehearse_most
 
 module _ (t : Table) (len : length t.rows ≡ most_tasks) where
   fits_by : Answered t → (rehearsed t).refused.number ≡ 0 → Fits t.n (rehearsed t)

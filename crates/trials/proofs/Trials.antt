@@ -6,32 +6,18 @@ use mathlib.Core.List.{List, [], ◌∷◌, ◌++◌}
 use native.Mathlib.Omega.{arith}
 use borrow.Author.Tests.{eq-eqb, ne_eqb}
 use lib.Dec.{eqb}
-use lib.ListN.{length, drop, get_or, length-append}
-use lib.Seq.{take-append_seam}
-use Rattle.maths.specs.Tasks.{entry}
+use lib.ListN.{length, get_or, length-append}
 use Rattle.maths.proofs.Tasks.{length-tabulate, get_d_tabulate}
 use Rattle.forms.specs.Forms.{line}
 use Rattle.forms.proofs.Digits.{width_most}
 use Rattle.table.specs.Limits.{most_tasks}
 use Rattle.writers.specs.Outputs.{refused_text}
-use Rattle.writers.specs.Code.Put.{Put}
-use Rattle.writers.proofs.Puts.{sets-front}
-use Rattle.writers.proofs.Sequences.{put-length}
 use Rattle.texts.proofs.Listings.{header_of, lines_from, listing-split, lines_more, lines_end, lines-most}
 use Rattle.rehearsal.specs.declared.Rehearsal.{Rehearsal}
-use Rattle.trials.specs.Code.Trials.{Stands}
 use Rattle.trials.specs.Rehearse.{trial_row, trial_rows, trial_text, tried_text, rehearse_most}
 
 abbrev pub header : List ℕ
 header = header_of "task,started,late"
-
--- by whether the task of a row is the late one
-module _ (r : Rehearsal) (k : ℕ) where
-  pub row-late : k ≡ r.task → trial_row r k ≡ k ∷ entry r.started k 0 ∷ r.tick ∷ []
-  row-late e = rw (eq-eqb k r.task e)
-
-  pub row_calm : (k ≡ r.task → ⊥) → trial_row r k ≡ k ∷ entry r.started k 0 ∷ 0 ∷ []
-  row_calm h = rw (ne_eqb k r.task h)
 
 module _ (n : ℕ) (r : Rehearsal) where
   -- the text of tasks i + 1 and on, of n
@@ -82,14 +68,3 @@ trial_most n r few w =
     each : (i : ℕ) → i < n → length (line (trial_row r (suc i))) ≤ 26
     each i l =
         row-most (suc i) _ _ (omega arith) (w.started i (omega arith)) (tick-most (eqb (suc i) r.task))
-
--- a text that was put at the front
-pub put-stands : (buffer text after : List ℕ) (next : ℕ) → Put buffer 0 text next after
-    → 0 + length text ≤ length buffer → Stands text next after
-put-stands buffer text after next p fits =
-    let size : next ≡ length text = let b = p.behind in omega arith in
-    let rest = drop (length text) buffer in
-    record {
-      inside = omega (arith, put-length p);
-      front = rw (size, p.holds, sets-front buffer text (omega arith)) (take-append_seam text rest);
-    }

@@ -1,5 +1,5 @@
 -- What the program "rehearse" writes, from its two texts, each there or missing: a row for each task, or the refusal.
-use Rattle.std.specs.Prelude.{ℕ, ◌+◌, ◌*◌, ◌≤◌, Bool, cond, List, [], ◌∷◌, eqb, length}
+use Rattle.std.specs.Prelude.{ℕ, ◌+◌, ◌*◌, ◌≤◌, Option, cond, List, [], ◌∷◌, eqb, length}
 use Rattle.maths.specs.Tasks.{tabulate, entry}
 use Rattle.table.specs.declared.Table.{Table}
 use Rattle.table.specs.Limits.{most_tasks}
@@ -24,7 +24,7 @@ tried_text n r = cond (eqb r.refused.number 0) (trial_text n r) (refused_text r.
 abbrev pub tried : Table → List ℕ
 tried t = tried_text t.n (rehearsed t)
 
-unfoldable pub rehearse_text : Bool → List ℕ → Bool → List ℕ → List ℕ
+unfoldable pub rehearse_text : Option (List ℕ) → Option (List ℕ) → List ℕ
 rehearse_text = listed tried
 
 -- The program's buffer, `REHEARSE_MOST`: a header of 19 bytes, and for each task its number of two digits, two numbers
@@ -34,5 +34,4 @@ rehearse_most = 19 + 26 * most_tasks
 
 -- Refusal 16 cannot come up in the program: whatever its texts, there or missing, however long.
 abbrev pub RehearseFits : Type 0
-RehearseFits = (platformThere : Bool) (platform : List ℕ) (tasksThere : Bool) (tasks : List ℕ)
-    → length (rehearse_text platformThere platform tasksThere tasks) ≤ rehearse_most
+RehearseFits = (platform tasks : Option (List ℕ)) → length (rehearse_text platform tasks) ≤ rehearse_most

@@ -1,15 +1,12 @@
--- A listing in the scratch room of its writer. No statement of a public function rests on this.
-use Rattle.std.specs.Prelude.{ℕ, ◌≤◌, ◌≡◌, List, length, take}
-use Rattle.table.specs.Limits.{most_tasks}
+-- What the code makes on its way to the listing. No statement of a public function rests on this.
+use Rattle.std.specs.Prelude.{ℕ, Result, Ok, Err}
+use Rattle.table.specs.declared.Refusal.{Refusal}
+use Rattle.table.specs.declared.Table.{Table}
+use Rattle.table.specs.Reasons.{answered}
 use Rattle.rehearsal.specs.declared.Rehearsal.{Rehearsal}
-use Rattle.trials.specs.Rehearse.{trial_text, rehearse_most}
+use Rattle.rehearsal.specs.Rehearsal.{rehearsed}
 
--- it has room there
-pub record Fits (n : ℕ) (r : Rehearsal) : Type 0 where
-  pub few : n ≤ most_tasks
-  pub room : length (trial_text n r) ≤ rehearse_most
-
--- it stands there, in front of its end
-pub record Stands (text : List ℕ) (end : ℕ) (room : List ℕ) : Type 0 where
-  pub inside : end ≤ length room
-  pub front : take end room ≡ text
+-- of a table that was taken: how many tasks it has, and its rehearsal
+abbrev pub tried_of : Result Table Refusal → Result (ℕ × Rehearsal) Refusal
+tried_of (Ok t) = answered (rehearsed t).refused (t.n, rehearsed t)
+tried_of (Err r) = Err r

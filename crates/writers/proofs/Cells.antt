@@ -1,41 +1,81 @@
 -- A number's digits, put from the right.
-use Rattle.std.proofs.Common.{◌≡◌, ℕ, ◌+◌, ◌/◌, ◌%◌, ◌^◌, ◌<◌, ◌≤◌, List, ◌++◌, length, sym, ap, ◌∙◌, arith}
+use Rattle.std.proofs.Common.{◌≡◌, ℕ, ◌+◌, ◌/◌, ◌%◌, ◌^◌, ◌<◌, ◌≤◌, List, [], ◌∷◌, ◌++◌, length, take, drop, refl}
+use Rattle.std.proofs.Common.{sym, ap, ◌∙◌, arith, set, ◌-◌, append-nil, length-drop}
+use Rattle.std.proofs.lemmas.List.{take_all, drop-set, length-set}
 use native.Mathlib.Nat.{lt_of_lt_of_le}
 use lib.Dec.{lit≤}
 use lib.Seq.{append_snoc}
 use Rattle.forms.specs.Digits.{digits}
-use Rattle.forms.proofs.Digits.{one-digit, split-digit, width_more, width_some, width_most}
+use Rattle.forms.proofs.Digits.{one-digit, split-digit, width_one, width_more, width_some, width_most}
 use Rattle.writers.specs.declared.Cell.{Cell}
-use Rattle.writers.specs.Cells.{held, Pushed, IsCell}
+use Rattle.writers.specs.Cells.{held, Prefixed}
 
--- the digits of rest are to come before what the cell holds
-pub record Spelling (bytes : List ℕ) (rest : ℕ) (c : Cell) : Type 0 where
-  pub spelt : digits rest ++ held c ≡ bytes
-  pub room : length (digits rest) ≤ c.from
+-- the digits of rest are to come before the bytes from a place on, and then those of n have
+pub record Spelling (before : Cell) (n rest : ℕ) (bytes : List ℕ) (at : ℕ) : Type 0 where
+  pub spelt : digits rest ++ drop at bytes ≡ digits n ++ held before
+  pub place : at + length (digits n) ≡ before.from + length (digits rest)
+  pub room : length (digits rest) ≤ at
+  pub within : at ≤ 22
+  pub size : length bytes ≡ 22
 
 -- a u64 has at most 20 digits
-pub spelling_start : (n : ℕ) (end : List ℕ) (c : Cell) → n < 2 ^ 64 → IsCell end 20 c → Spelling (digits n ++ end) n c
-spelling_start n end c fits is = record {
-  spelt = ap (λ l. digits n ++ l) is.holds;
-  room = let most = width_most 19 n (lt_of_lt_of_le fits (lit≤ tt)) in omega (arith, is.room);
+pub spelling_start : (c : Cell) (n : ℕ) → n < 2 ^ 64 → 20 ≤ c.from → c.from ≤ 22 → length c.bytes ≡ 22
+    → Spelling c n n c.bytes c.from
+spelling_start c n fits room within size = record {
+  spelt = refl;
+  place = refl;
+  room = let most = width_most 19 n (lt_of_lt_of_le fits (lit≤ tt)) in omega arith;
+  within = within;
+  size = size;
 }
 
-module _ {bytes : List ℕ} {rest : ℕ} {c : Cell} (s : Spelling bytes rest c) where
-  pub spelling_room : 0 < c.from
+module _ {before : Cell} {n rest : ℕ} {bytes : List ℕ} {at : ℕ} (s : Spelling before n rest bytes at) where
+  pub spelling_room : 0 < at
   spelling_room = let h = s.room in omega (arith, width_some rest)
 
-  pub spelling_more : {d : Cell} → 10 ≤ rest → Pushed c (48 + rest % 10) d → Spelling bytes (rest / 10) d
-  spelling_more {d} ten push = record {
-    spelt =
-        ap (λ l. digits (rest / 10) ++ l) push.more
-        ∙ sym (append_snoc (digits (rest / 10)) (48 + rest % 10) (held c))
-        ∙ ap (λ l. l ++ held c) (sym (split-digit rest ten))
-        ∙ s.spelt;
-    room = let h = s.room in let p = push.place in omega (arith, width_more rest ten);
-  }
+  pub spelling_more : 10 ≤ rest
+      → Spelling before n (rest / 10) (set bytes (at - 1) (48 + rest % 10)) (at - 1)
+  spelling_more ten =
+      let more = width_more rest ten in
+      let place = s.place in
+      let room = s.room in
+      let within = s.within in
+      let size = s.size in
+      let some = spelling_room in
+      let byte = 48 + rest % 10 in
+      let back : at - 1 + 1 ≡ at = omega arith in
+      let first = drop-set bytes (at - 1) byte (omega arith) ∙ ap (λ k. byte ∷ drop k bytes) back in
+      record {
+        spelt =
+            ap (λ l. digits (rest / 10) ++ l) first
+            ∙ sym (append_snoc (digits (rest / 10)) byte (drop at bytes))
+            ∙ ap (λ l. l ++ drop at bytes) (sym (split-digit rest ten))
+            ∙ s.spelt;
+        place = omega arith;
+        room = omega arith;
+        within = omega arith;
+        size = length-set bytes (at - 1) byte ∙ size;
+      }
 
-  pub spelling_end : {d : Cell} → rest < 10 → Pushed c (48 + rest) d → IsCell bytes 0 d
-  spelling_end {d} one push = record {
-    holds = push.more ∙ ap (λ l. l ++ held c) (sym (one-digit rest one)) ∙ s.spelt;
-    room = omega arith;
-  }
+  pub spelling_end : {c d : Cell} → rest < 10 → c.bytes ≡ bytes → c.from ≡ at → Prefixed c ((48 + rest) ∷ []) d
+      → Prefixed before (digits n) d
+  spelling_end {c} {d} one same here p =
+      let last = width_one rest one in
+      let push = p.place in
+      let place = s.place in
+      record {
+        holds =
+            p.holds
+            ∙ (λ i. (48 + rest) ∷ drop (here i) (same i))
+            ∙ ap (λ l. l ++ drop at bytes) (sym (one-digit rest one))
+            ∙ s.spelt;
+        place = omega arith;
+      }
+
+-- what a cell holds in the end, as a slice
+pub whole_cell : {a b c : Cell} {more bytes : List ℕ} → held a ≡ [] → Prefixed a more b → Prefixed b bytes c
+    → take (length c.bytes - c.from) (drop c.from c.bytes) ≡ bytes ++ more
+whole_cell {a} {b} {c} {more} {bytes} e p q =
+    take_all (length c.bytes - c.from) (held c) (omega (arith, length-drop c.from c.bytes))
+    ∙ q.holds
+    ∙ ap (λ l. bytes ++ l) (p.holds ∙ ap (λ l. more ++ l) e ∙ append-nil more)

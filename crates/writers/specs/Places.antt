@@ -8,8 +8,14 @@ use Rattle.writers.specs.declared.Measure.{Measure}
 use Rattle.writers.specs.declared.Cursor.{Cursor}
 use Rattle.writers.specs.Sinks.{SinkLaws}
 
+abbrev pub room_left : Measure → ℕ
+room_left m = m.left
+
 abbrev pub measured : Measure → List ℕ → Measure
 measured m text = record { left = m.left - length text }
+
+abbrev pub room_behind : Cursor → ℕ
+room_behind c = length c.buf.now - c.at
 
 abbrev pub written_at : Cursor → List ℕ → Cursor
 written_at c text = record {
@@ -17,7 +23,7 @@ written_at c text = record {
   at = c.at + length text;
 }
 
-pub measure_laws : SinkLaws (λ (m : Measure). m.left) measured
+pub measure_laws : SinkLaws room_left measured
 measure_laws = record {
   none = λ m. let e : m.left - 0 ≡ m.left = omega arith in ap (λ n. record { left = n }) e;
   behind = λ m a b.
@@ -33,7 +39,7 @@ sets_append buffer at [] b = let e : at + 0 ≡ at = omega arith in rw e refl
 sets_append buffer at (x ∷ a) b = let e : at + suc (length a) ≡ suc at + length a = omega arith in
     rw e (sets_append (set buffer at x) (suc at) a b)
 
-pub cursor_laws : SinkLaws (λ (c : Cursor). length c.buf.now - c.at) written_at
+pub cursor_laws : SinkLaws room_behind written_at
 cursor_laws = record {
   none = λ c. let e : c.at + 0 ≡ c.at = omega arith in ap (λ n. record c { at = n }) e;
   behind = λ c a b.

@@ -2,13 +2,13 @@
 // where it goes: it is measured first, and where it does not fit, nothing is changed.
 #![tactic(auto)]
 
-ghost use Rattle.std.specs.Prelude.{ℕ, ◌+◌, ◌-◌, ◌<◌, ◌≤◌, ◌≡◌, List, ◌++◌, leb, length, drop};
+ghost use Rattle.std.specs.Prelude.{ℕ, ◌+◌, ◌-◌, ◌<◌, ◌≤◌, ◌≡◌, IfNone, List, [], ◌∷◌, ◌++◌, leb, length, drop};
 ghost use Rattle.forms.specs.Digits.{digits};
 ghost use Rattle.forms.specs.Forms.{ending, line};
 ghost use Rattle.table.specs.Limits.{most_tasks};
 ghost use Rattle.table.specs.Refused.{no_refusal};
 ghost use Rattle.writers.specs.Outputs.{task_row, platform_text, tasks_text, reports_text, refused_text, margins_text};
-ghost use Rattle.writers.specs.Places.{measured, measure_laws, written_at, cursor_laws};
+ghost use Rattle.writers.specs.Places.{room_left, measured, measure_laws, room_behind, written_at, cursor_laws};
 ghost use Rattle.writers.specs.Signed.{margin_of, sign, margin_row};
 ghost use Rattle.writers.specs.Sinks.{SinkLaws, Took};
 ghost use Rattle.writers.specs.Written.{too_short, Wrote, WroteBoth};
@@ -23,7 +23,7 @@ pub trait Sink {
     // what it is once some bytes are put there
     ghost put: { Self → List ℕ → Self };
 
-    // The word, or none of it where it has no room.
+    // The word, or none of it where it has no room: both places below are then as they were.
     fn word(&mut self, word: &[u8]) -> Option<()>
         ensures { Took room put self.old word.now result self.new };
 
@@ -37,13 +37,16 @@ struct Measure {
 }
 
 impl Sink for Measure {
-    ghost room = { λ m. m.left };
+    ghost room = { room_left };
 
     ghost put = { measured };
 
     ghost laws = { measure_laws };
 
-    fn word(&mut self, word: &[u8]) -> Option<()> {
+    fn word(&mut self, word: &[u8]) -> Option<()>
+        ensures took { Took room_left measured self.old word.now result self.new }
+        ensures kept { IfNone result (self.new ≡ self.old) }
+    {
         self.left = self.left.checked_sub(word.len())?;
         Some(())
     }
@@ -57,13 +60,16 @@ struct Cursor<'a> {
 }
 
 impl Sink for Cursor<'_> {
-    ghost room = { λ c. length c.buf.now - c.at };
+    ghost room = { room_behind };
 
     ghost put = { written_at };
 
     ghost laws = { cursor_laws };
 
-    fn word(&mut self, word: &[u8]) -> Option<()> {
+    fn word(&mut self, word: &[u8]) -> Option<()>
+        ensures took { Took room_behind written_at self.old word.now result self.new }
+        ensures kept { IfNone result (self.new ≡ self.old) }
+    {
         let at = self.at.min(self.buf.len());
         if self.buf.len() - at < word.len() {
             return None;
@@ -74,7 +80,8 @@ impl Sink for Cursor<'_> {
     }
 }
 
-// What has a text, as Display has: but one that is measured as well as written, into memory that the caller lends.
+// What has a text. As std's Display, but what is written of a text that ends early is known here, and no format is
+// read while it is written.
 pub trait Text {
     ghost bytes: { Self → List ℕ };
 
@@ -144,7 +151,7 @@ pub fn write<T: Text>(text: &T, buf: &mut [u8]) -> Written
 }
 
 // The bytes of a number with what ends it, from a place on.
-#[derive(Clone, Copy)]
+#[derive(Drop)]
 struct Cell {
     bytes: [u8; Cell::MOST],
     from: usize,
@@ -152,56 +159,66 @@ struct Cell {
 }
 
 impl Cell {
-    ghost use Rattle.writers.specs.Cells.{Pushed, IsCell};
+    ghost use Rattle.writers.specs.Cells.{Prefixed, held};
 
     // Twenty digits, CR and LF.
     const MOST: usize = 22;
 
+    fn empty() -> Cell
+        ensures { (held result ≡ []) × (result.from ≡ 22) }
+    {
+        Cell {
+            bytes: [0; Cell::MOST],
+            from: Cell::MOST,
+        }
+    }
+
     // One byte more, at the front.
     fn push(&mut self, byte: u8)
         requires { 0 < self.old.from }
-        ensures { Pushed self.old byte self.new }
+        ensures { Prefixed self.old (byte ∷ []) self.new }
     {
         self.from -= 1;
         self.bytes[self.from] = byte;
     }
 
-    // What ends a number that so many more follow in its row.
-    fn ending(left: usize) -> Cell
-        ensures { IsCell (ending left) 20 result }
+    // What ends a number that so many follow in its row.
+    fn push_ending(&mut self, left: usize)
+        requires { 2 ≤ self.old.from }
+        ensures { Prefixed self.old (ending left) self.new }
     {
-        let mut cell = Cell {
-            bytes: [0; Cell::MOST],
-            from: Cell::MOST,
-        };
         if left == 0 {
-            cell.push(b'\n');
-            cell.push(b'\r');
+            self.push(b'\n');
+            self.push(b'\r');
         } else {
-            cell.push(b',');
+            self.push(b',');
         }
-        cell
     }
 
-    fn new(n: u64, left: usize) -> Cell
-        ensures { IsCell (digits n ++ ending left) 0 result }
+    // How many digits there are is found on the way: no `for`. The place is a local of the loop, to stay in a register.
+    fn push_digits(&mut self, n: u64)
+        requires { 20 ≤ self.old.from }
+        ensures { Prefixed self.old (digits n) self.new }
     {
-        let mut cell = Cell::ending(left);
+        let mut at = self.from;
         let mut rest = n;
         while 10 <= rest {
-            cell.push(b'0' + (rest % 10) as u8);
+            at -= 1;
+            self.bytes[at] = b'0' + (rest % 10) as u8;
             rest /= 10;
         }
-        cell.push(b'0' + rest as u8);
-        cell
+        self.from = at;
+        self.push(b'0' + rest as u8);
     }
 }
 
-// A number and what ends it, where so many more follow in its row.
+// A number and what ends it, where so many more follow in its row. The cell's bytes are moved only into the sink.
 fn put_cell<S: Sink>(n: u64, left: usize, sink: &mut S) -> Option<()>
     ensures { Took S.room S.put sink.old (digits n ++ ending left) result sink.new }
 {
-    let cell = Cell::new(n, left);
+    let mut cell = Cell::empty();
+    cell.push_ending(left);
+    cell.push_digits(n);
     sink.word(&cell.bytes[cell.from..])
 }
 

@@ -16,6 +16,3 @@ returns-then-k-lt1 c =
       | then-k-lt1-via-else-k-lt1+then-k-gt-MOST w ↦
           rw (lt-ltb 0 k (omega arith)) (sym (bit-none x (k - 1) (bit-above 32 x (k - 1) (search rules) (omega arith))))
     ]
-
-pub returns : goal.returns
-returns c = rw (lt-ltb 0 c.args.k (omega arith))

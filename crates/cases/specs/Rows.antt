@@ -2,7 +2,7 @@
 -- and the answer that document 01 gives; of "explain", which document 01 does not have, the answer by hand from its
 -- formulas; of a rehearsal (wish 1) what a plain simulation gives. `cases` is proved to give `expected` in
 -- proofs/Hold.antt, from the bytes of the texts on.
-use Rattle.std.specs.Prelude.{ℕ, ◌*◌, ◌/◌, true, cond, List, [], ◌∷◌}
+use Rattle.std.specs.Prelude.{ℕ, ◌*◌, ◌/◌, cond, List, [], ◌∷◌, Some, Result}
 use Rattle.std.specs.Prelude.{◌++◌, map, ℤ, pos, negsuc, length, replicate, take}
 use Prim.Native.String.{String}
 use Rattle.maths.specs.Tasks.{entry}
@@ -25,7 +25,7 @@ use Rattle.rehearsal.specs.Multiple.{multiple}
 use Rattle.rehearsal.specs.Rehearsal.{bench_refusal, rehearsed}
 use Rattle.readers.specs.declared.Tick.{Tick}
 use Rattle.readers.specs.Inputs.{no_platform}
-use Rattle.texts.specs.Given.{given}
+use Rattle.texts.specs.Given.{given, told}
 use Rattle.texts.specs.Admit.{admit_text}
 use Rattle.texts.specs.Verdict.{verdict}
 use Rattle.runs.specs.Ticks.{tick_with, ticks_text}
@@ -77,13 +77,16 @@ pub data Answered : Type 0 where
   written : List ℕ → Answered
   numbers : List (List ℤ) → Answered
 
+-- what two texts give
+abbrev pub read_in : Files → Result Table Refusal
+read_in f = given (read platform_form (csv f.platform)) (read tasks_form (csv f.tasks))
+
 -- the table of two good texts
 abbrev pub table_in : Files → Table
-table_in f = given (λ r. empty_table no_platform) (λ t. t) (read platform_form (csv f.platform))
-    (read tasks_form (csv f.tasks))
+table_in f = told (λ r. empty_table no_platform) (λ t. t) (read_in f)
 
 abbrev pub refusal_in : Files → Refusal
-refusal_in f = given (λ r. r) refusal (read platform_form (csv f.platform)) (read tasks_form (csv f.tasks))
+refusal_in f = told (λ r. r) refusal (read_in f)
 
 abbrev pub answer_row : ℕ → FullAnswer → List ℤ
 answer_row n a = cond a.admitted (pos 1) (pos 0) ∷ pos a.first ∷ take n a.margins
@@ -111,9 +114,9 @@ abbrev pub rehearsed_rows : ℕ → Rehearsal → List (List ℤ)
 rehearsed_rows n r = refusal_row r.refused ∷ pair r.tick r.task ∷ map pos (take n r.started) ∷ []
 
 abbrev pub answered : Asked → Answered
-answered (admit f) = written (admit_text true (csv f.platform) true (csv f.tasks))
-answered (explain f) = written (explain_text true (csv f.platform) true (csv f.tasks))
-answered (ticks f xs) = written (ticks_text true (csv f.platform) true (csv f.tasks) true (csv xs))
+answered (admit f) = written (admit_text (Some (csv f.platform)) (Some (csv f.tasks)))
+answered (explain f) = written (explain_text (Some (csv f.platform)) (Some (csv f.tasks)))
+answered (ticks f xs) = written (ticks_text (Some (csv f.platform)) (Some (csv f.tasks)) (Some (csv xs)))
 answered (board f) = numbers ((pos (verdict (csv f.platform) (csv f.tasks)) ∷ []) ∷ [])
 answered (answer f) = numbers (answer_row (table_in f).n (full_answer (table_in f)) ∷ [])
 answered (blocks f k) = numbers ((pos (B (table_in f) k) ∷ []) ∷ [])

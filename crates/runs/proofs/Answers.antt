@@ -25,8 +25,8 @@ use Rattle.runs.specs.Code.Runs.{rows_of, ticks_in, CountedTicks, judged}
 abbrev JudgedRun : Type 0
 JudgedRun = Result (Machine × ℕ) Refusal
 
-pub ran-refused : (x : Result Table Refusal) (y : Answer (List (List ℕ))) (r : Refusal) → Err r ≡ judged x (ticks_read y)
-    → told refused_text (ran y) x ≡ refused_text r
+pub ran-refused : (x : Result Table Refusal) (y : Answer (List (List ℕ))) (r : Refusal)
+    → Err r ≡ judged x (ticks_read y) → told refused_text (ran y) x ≡ refused_text r
 ran-refused (Err r) y s e = let f : r ≡ s = cc in ap refused_text f
 ran-refused (Ok t) (refused offset) s e = let f : bad_text offset ≡ s = cc in ap refused_text f
 ran-refused (Ok t) (found rows) s e = go (eqb (refusal t).number 0) e

@@ -50,7 +50,8 @@ pub data SideBySide (admits explains : List ℕ) : Type 0 where
       → SideBySide admits explains
 
 abbrev pub ExplainsAdmit : Type 0
-ExplainsAdmit = (platform tasks : Option (List ℕ)) → SideBySide (admit_text platform tasks) (explain_text platform tasks)
+ExplainsAdmit = (platform tasks : Option (List ℕ))
+    → SideBySide (admit_text platform tasks) (explain_text platform tasks)
 
 -- The program's buffer, `EXPLAIN_MOST`: a header of 38 bytes, and five numbers of at most 20 digits, four commas and
 -- CR LF for each pair.

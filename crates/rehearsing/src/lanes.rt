@@ -6,8 +6,8 @@ ghost use Rattle.rehearsing.specs.Code.Lanes.{settled_lane, begun_lane, next_of}
 
 use table::Task;
 
-// Later than any tick of a rehearsal. A number, and no `Option<u32>` for `late` and `ends`: the passes compare them at
-// every event, and take 1.3 to 1.45 times the instructions with it, over the bar of 1.3 times plain C.
+// Later than any tick of a rehearsal. A number, since with `Option<u32>` for `late` and `ends` the passes took 1.20 to
+// 1.29 times the instructions, and some rehearsals of 16 and 32 tasks more than 1.3 times those of plain C, the bar.
 pub(crate) const NEVER: u32 = u32::MAX;
 
 // A task on the bench, by the ticks at which something becomes of it: its next release, the tick at which its

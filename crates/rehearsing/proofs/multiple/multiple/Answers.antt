@@ -1,5 +1,5 @@
 use Prim.Native.Nat.{ℕ, suc, ◌+◌, ◌<◌, ◌≤◌}
-use mathlib.Core.Path.{◌≡◌, sym, ap, ◌∙◌}
+use mathlib.Core.Path.{◌≡◌, sym, ◌∙◌}
 use native.Mathlib.Numerals.{add-one}
 use native.Mathlib.Omega.{arith}
 use borrow.Author.Rules.{rules}
@@ -12,7 +12,7 @@ use Rattle.table.specs.Limits.{most_tasks}
 use Rattle.table.specs.Tasks.{τ, T}
 use Rattle.table.proofs.Good.{good_of}
 use Rattle.multiples.specs.Gcd.{lcm}
-use Rattle.multiples.proofs.Within.{is_within, is-above, was-within, was-above}
+use Rattle.multiples.proofs.Within.{is-above, was-within, was-above}
 use Rattle.rehearsal.specs.Bench.{Unrefused}
 use Rattle.rehearsal.specs.Multiple.{multiple_to, multiple, most_multiple}
 use Rattle.rehearsal.proofs.Multiple.{multiple_to-zero, multiple_to-more, multiple_to-le}
@@ -64,11 +64,3 @@ returns-in_err-so_far c =
 pub loop-i-preserved : goal.loop-i-preserved
 loop-i-preserved c =
     goes_on_lem c.args.t.now c.loop-i.i c.loop-i.invariant.0 _ (sym c.in_ok-so_far.ensures)
-
-pub returns : goal.returns
-returns c =
-    let t = c.args.t.now in
-    let l = c.loop-i in
-    let at-end : l.i ≡ t.n = omega arith in
-    let all : l.so_far ≡ multiple t = rw at-end at l.invariant.0 in
-    ap Some all ∙ sym (is_within (multiple t) most_multiple (omega (arith, all, l.invariant.1)))

@@ -1,6 +1,5 @@
-use mathlib.Core.Path.{◌∙◌}
 use Rattle.maths.specs.Tasks.{tabulate, entry}
-use Rattle.maths.proofs.Arrays.{up_none, up_more, up-all}
+use Rattle.maths.proofs.Arrays.{up_none, up_more}
 use Rattle.table.specs.Limits.{most_tasks}
 use Rattle.rehearsing.specs.Code.Lanes.{no_lane}
 use borrow.Author.Rules.{rules}
@@ -15,9 +14,3 @@ loop-k-preserved c =
     let lanes = c.args.self.now.lanes in
     rw c.loop-k.invariant
     (up_more most_tasks (λ j. (entry lanes j no_lane).started) (λ j. 0) c.loop-k.k (search rules))
-
-pub returns : goal.returns
-returns c =
-    let lanes = c.args.self.now.lanes in
-    c.loop-k.invariant
-    ∙ up-all most_tasks (λ j. (entry lanes j no_lane).started) (λ j. 0) c.loop-k.k (search rules)

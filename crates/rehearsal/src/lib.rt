@@ -3,8 +3,8 @@
 
 use table::{Refusal, Table};
 
-// The tick at which a job is late and the lowest such task, 0 and 0 where none is, and how many jobs each task started
-// before; or the refusal, and all else 0.
+// As C gets it, which has no `Option`: the tick at which a job is late and the lowest such task, 0 and 0 where none is,
+// and how many jobs each task started before; or the refusal, and all else 0.
 #[repr(C)]
 #[derive(Clone, Copy)]
 pub struct Rehearsal {

@@ -27,7 +27,7 @@ use Rattle.admission.proofs.Laws.{admitted-is}
 use Rattle.admission.proofs.Answers.{quick_refusal, quick_unrefused, first-le}
 use Rattle.machine.specs.declared.Machine.{Machine}
 use Rattle.machine.specs.Fresh.{set_up}
-use Rattle.texts.specs.Given.{given}
+use Rattle.texts.specs.Given.{given, told}
 use Rattle.texts.specs.Verdict.{number_of, quick_number, verdict}
 use Rattle.texts.proofs.Answers.{numbered-refused}
 use Rattle.promise.specs.Promise.{Admitted}
@@ -95,7 +95,7 @@ module _ (platform tasks : List ℕ) where
           (board.refused g (suc k) (omega arith) (omega (arith, (refusal_carries t (whole g)).number, e)) e)
 
   means_of : (x y : Answer (List (List ℕ))) → Reads platform_form platform x → Reads tasks_form tasks y
-      → Means platform tasks (given number_of quick_number x y)
+      → Means platform tasks (told number_of quick_number (given x y))
   means_of (refused k) y h i = board.no_text (λ g. h.bad g.0)
   means_of (found rows) (refused k) h i = board.no_text (λ g. i.bad g.1)
   means_of (found rows) (found others) h i = means-table ((rows, h.0, h.1), (others, i.0, i.1))
@@ -115,7 +115,7 @@ module _ (platform tasks : List ℕ) where
       none (read platform_form platform) (read tasks_form tasks) (reads platform_form platform) (reads tasks_form tasks)
     where
       none : (x y : Answer (List (List ℕ))) → Reads platform_form platform x → Reads tasks_form tasks y
-          → given number_of quick_number x y ≡ 15
+          → told number_of quick_number (given x y) ≡ 15
       none (refused k) y i j = refl
       none (found rows) (refused k) i j = refl
       none (found rows) (found others) i j = absurd (h ((rows, i.0, i.1), (others, j.0, j.1)))

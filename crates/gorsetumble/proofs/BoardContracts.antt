@@ -17,8 +17,7 @@ use Rattle.machine.specs.declared.Machine.{Machine}
 use Rattle.machine.specs.Tick.{Ticked, tick}
 use Rattle.texts.specs.Verdict.{verdict}
 use Rattle.gorsetumble.specs.declared.texting.TextRefusal.{TextRefusal}
-use Rattle.gorsetumble.specs.declared.texting.TextsSetUp.{TextsSetUp}
-use Rattle.gorsetumble.specs.FromTexts.{set_up_texts}
+use Rattle.gorsetumble.specs.FromTexts.{TextsSetUp, set_up_texts}
 use Rattle.gorsetumble.specs.contracts.gorsetumble_tick as tick-fn
 use Rattle.gorsetumble.specs.contracts.texting.gorsetumble_set_up_texts as set-up-fn
 use Rattle.gorsetumble.specs.contracts.texting.gorsetumble_quick_verdict as verdict-fn

@@ -3,5 +3,4 @@ pub mod BoardContracts
 pub mod Contracts
 pub mod Demands
 pub mod Determined
-pub mod Fill
 pub mod FromTexts

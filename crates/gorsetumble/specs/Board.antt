@@ -16,9 +16,8 @@ use Rattle.texts.specs.Verdict.{verdict}
 use Rattle.promise.specs.Sequences.{Report}
 use Rattle.promise.specs.Promise.{Kept}
 use Rattle.promise.specs.Calls.{Ticks, returned}
-use Rattle.gorsetumble.specs.declared.texting.TextsSetUp.{TextsSetUp}
 use Rattle.gorsetumble.specs.Demands.{since}
-use Rattle.gorsetumble.specs.FromTexts.{in_platform, in_tasks, bad_in, of_table, set_up_texts}
+use Rattle.gorsetumble.specs.FromTexts.{TextsSetUp, in_platform, in_tasks, bad_in, of_table, set_up_texts}
 
 -- Both texts are good: each is the one good text of some rows.
 abbrev pub GoodTexts : List ℕ → List ℕ → Type 0

@@ -8,7 +8,11 @@ use Rattle.readers.specs.Inputs.{bad_text, table_from}
 use Rattle.machine.specs.declared.Machine.{Machine}
 use Rattle.machine.specs.Fresh.{SetUp, set_up}
 use Rattle.gorsetumble.specs.declared.texting.TextRefusal.{TextRefusal}
-use Rattle.gorsetumble.specs.declared.texting.TextsSetUp.{TextsSetUp}
+
+-- what set-up from two texts comes to: why none is made, with number 0 where one is, and the machine that is left
+pub record TextsSetUp : Type 0 where
+  pub refused : TextRefusal
+  pub machine : Machine
 
 -- which text a refusal is in: 0 where it is in none
 abbrev pub in_platform : ℕ

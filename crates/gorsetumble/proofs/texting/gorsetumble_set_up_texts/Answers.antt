@@ -1,12 +1,16 @@
-use Rattle.std.proofs.Common.{◌∙◌, ap}
-use Rattle.gorsetumble.specs.declared.texting.TextsSetUp.{TextsSetUp}
-use Rattle.gorsetumble.specs.Code.TextsRead.{renewed}
-use Rattle.gorsetumble.proofs.FromTexts.{renewed-texts}
+use mathlib.Core.Path.{◌∙◌, ap}
+use Rattle.gorsetumble.proofs.FromTexts.{said, texts-told}
 use Rattle.gorsetumble.proofs.texting.gorsetumble_set_up_texts.Goals as goal
 
-pub returns : goal.returns
-returns c =
-    let args = c.args in
-    let whole = c.renew-s.ensures ∙ ap (renewed args.m.now) c.read_texts-t.ensures
-    ∙ renewed-texts args.m.now args.platform.now args.tasks.now in
-    (ap (λ (s : TextsSetUp). s.refused) whole, ap (λ (s : TextsSetUp). s.machine) whole)
+pub returns-in-Ok : goal.returns-in-Ok
+returns-in-Ok c = (
+  ap said c.in-Ok.ensures.answer ∙ texts-told c.args.m.now c.args.platform.now c.args.tasks.now,
+  c.in-Ok.ensures.machine,
+)
+
+pub returns-in-Err : goal.returns-in-Err
+returns-in-Err c = (
+  c.into.ensures ∙ ap said c.in-Err.ensures.answer
+      ∙ texts-told c.args.m.now c.args.platform.now c.args.tasks.now,
+  c.in-Err.ensures.machine,
+)

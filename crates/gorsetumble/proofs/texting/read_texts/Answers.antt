@@ -1,28 +1,30 @@
+use mathlib.Core.Path.{◌∙◌, sym, ap}
+use Rattle.std.specs.Prelude.{Err}
+use Rattle.std.specs.Result.{result_map_both}
+use Rattle.std.proofs.lemmas.Result.{err_from_is_err_and}
 use Rattle.forms.specs.Forms.{platform_form, tasks_form}
 use Rattle.forms.specs.Reader.{read}
+use Rattle.gorsetumble.specs.declared.texting.Failure.TheVariants.{Platform, Tasks}
 use Rattle.gorsetumble.specs.Code.TextsRead.{texts_read}
-use Rattle.gorsetumble.proofs.FromTexts.{platform-bad, tasks-bad, both-good}
+use Rattle.gorsetumble.proofs.FromTexts.{mapped, platform-bad, platform-good}
 use Rattle.gorsetumble.proofs.texting.read_texts.Goals as goal
 
-pub returns-then-p-ne0 : goal.returns-then-p-ne0
+pub returns-in_err-held : goal.returns-in_err-held
 unfolding texts_read
-returns-then-p-ne0 c =
-    let p = c.read_platform-p in
-    platform-bad p.result (read tasks_form _) (read platform_form _) p.ensures c.if-p-ne0.true
-    c.bad.result c.bad.ensures
-
-pub returns-then-t-ne0 : goal.returns-then-t-ne0
-unfolding texts_read
-returns-then-t-ne0 c =
-    let k = c.read_tasks-t in
-    let p = c.read_platform-p in
-    tasks-bad p.result k.result (read platform_form _) (read tasks_form _) p.ensures c.if-p-ne0.false k.ensures
-    c.if-t-ne0.true c.bad-then-t-ne0.result c.bad-then-t-ne0.ensures
+returns-in_err-held c =
+    let given = err_from_is_err_and c.from_residual.result c.from_residual.ensures.1 in
+    let found = mapped Platform c.read_platform.result c.map_err.result c.map_err.ensures.cases
+    ∙ ap (result_map_both (λ p. p) Platform) c.read_platform.ensures in
+    given.1 ∙ ap Err given.2
+    ∙ platform-bad (read platform_form c.args.platform.now) (read tasks_form c.args.tasks.now) _
+    (sym c.in_err-held.was ∙ found)
 
 pub returns : goal.returns
 unfolding texts_read
 returns c =
-    let k = c.read_tasks-t in
-    let p = c.read_platform-p in
-    both-good p.result k.result (read platform_form _) (read tasks_form _) p.ensures c.if-p-ne0.false
-    k.ensures c.if-t-ne0.false
+    let found = mapped Platform c.read_platform.result c.map_err.result c.map_err.ensures.cases
+    ∙ ap (result_map_both (λ p. p) Platform) c.read_platform.ensures in
+    mapped Tasks c.read_tasks.result c.map_err-2.result c.map_err-2.ensures.cases
+    ∙ ap (result_map_both (λ t. t) Tasks) c.read_tasks.ensures
+    ∙ platform-good (read platform_form c.args.platform.now) (read tasks_form c.args.tasks.now) _
+    (sym c.in_ok-held.was ∙ found)

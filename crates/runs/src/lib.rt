@@ -49,6 +49,7 @@ impl Run {
             u64::from(x.late),
             u64::from(x.started),
         ];
+        // C's record has number 0 where the tick is not refused.
         self.taken += u64::from(x.refused.number == 0);
         self.at = read.next;
         row

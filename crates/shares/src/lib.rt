@@ -16,7 +16,8 @@ use writers::{Sink, Text, Written};
 
 const HEADER: &[u8] = b"task,other,interference,weight,share\r\n";
 
-// The longest row: five numbers of at most 20 digits, commas and CR LF.
+// The longest row: five numbers of at most 20 digits, commas and CR LF. `runs` says it of its own columns: neither crate
+// stands on the other.
 const ROW: usize = 5 * (20 + 1) + 1;
 
 // The most that the program "explain" writes: it lends so much, and refusal 16 cannot come up.
@@ -36,6 +37,7 @@ impl Pairs<'_> {
         ensures { result ≡ pair_row self.now.table.now k i }
     {
         let x = admission::share_of(self.table, k, i);
+        // `as`: there is no From of usize.
         [k as u64, i as u64, x.interference, x.weight, x.share]
     }
 

@@ -40,6 +40,7 @@ impl Trial {
         let r = &self.rehearsal;
         let k = i + 1;
         let late = if k == r.task { r.tick } else { 0 };
+        // `as`: there is no From of usize.
         [k as u64, u64::from(r.started[i]), u64::from(late)]
     }
 }
@@ -63,6 +64,7 @@ fn tried_table(unit: UnitTexts) -> Result<(usize, Rehearsal), Refusal>
 {
     let table = texts::take_table(unit)?;
     let rehearsal = rehearsing::rehearse(&table);
+    // C's record has number 0 where nothing is refused.
     if rehearsal.refused.number != 0 {
         return Err(rehearsal.refused);
     }

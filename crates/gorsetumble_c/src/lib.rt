@@ -1,7 +1,7 @@
 // The functions of crate gorsetumble as C calls them: each export calls the function of its name, with its clauses.
 #![tactic(auto)]
 
-ghost use Rattle.std.specs.Prelude.{◌≡◌, true};
+ghost use Rattle.std.specs.Prelude.{◌≡◌, Some};
 ghost use Rattle.table.specs.Tasks.{table_of};
 ghost use Rattle.admission.specs.Answers.{full_answer, quick_answer};
 ghost use Rattle.machine.specs.Fresh.{set_up};
@@ -85,7 +85,7 @@ pub extern "C" fn gorsetumble_quick_verdict(platform: &[u8], tasks: &[u8]) -> u3
 
 #[unsafe(no_mangle)]
 pub extern "C" fn gorsetumble_admit(platform: &[u8], tasks: &[u8], out: &mut [u8]) -> Written
-    ensures { Wrote (admit_text true platform.now true tasks.now)
+    ensures { Wrote (admit_text (Some platform.now) (Some tasks.now))
         out.old result out.new }
 {
     texting::gorsetumble_admit(platform, tasks, out)
@@ -97,7 +97,7 @@ pub extern "C" fn gorsetumble_rehearse_texts(
     tasks: &[u8],
     out: &mut [u8],
 ) -> Written
-    ensures { Wrote (rehearse_text true platform.now true tasks.now)
+    ensures { Wrote (rehearse_text (Some platform.now) (Some tasks.now))
         out.old result out.new }
 {
     texting::gorsetumble_rehearse_texts(platform, tasks, out)
@@ -110,7 +110,7 @@ pub extern "C" fn gorsetumble_ticks(
     ticks: &[u8],
     out: &mut [u8],
 ) -> Written
-    ensures { Wrote (ticks_text true platform.now true tasks.now true ticks.now)
+    ensures { Wrote (ticks_text (Some platform.now) (Some tasks.now) (Some ticks.now))
         out.old result out.new }
 {
     texting::gorsetumble_ticks(platform, tasks, ticks, out)

@@ -1,100 +1,60 @@
 // A machine in use by one clinic is set up anew for the next: it holds nothing of the old, and a table that is refused
 // leaves it at work.
-// Every step goes through the lent forms.
+// Every step lends the machine to the functions that C calls.
 #![tactic(auto)]
 
-use gorsetumble::lending;
-use machine::{Machine, Stage};
-use std::io;
+use gorsetumble::{gorsetumble_set_up, gorsetumble_tick};
+use machine::Machine;
+use std::{fmt, io};
 use table::{Cores, Partitions, Platform, Refusal, Table, Task};
 
-fn say<P: Print>(rt: &P, text: &[u8]) -> io::Result<()> {
-    rt.write_all(text)
-}
-
-fn say_number<P: Print>(rt: &P, name: &[u8], x: u64) -> io::Result<()> {
-    say(rt, name)?;
-    rt.print(x)
-}
-
-fn say_refusal<P: Print>(rt: &P, r: Refusal) -> io::Result<()> {
-    say_number(rt, b"refused ", r.number as u64)?;
-    say_number(rt, b", row or task ", r.row as u64)
-}
-
-fn one_if_runs(s: Stage) -> u64 {
-    if s.is_running() { 1 } else { 0 }
-}
-
+// A refusal as the story tells it.
 #[derive(Clone, Copy)]
-struct Use {
-    running: u64,
-    held: u64,
-}
+struct Refused(Refusal);
 
-// How many jobs run, and which partitions are held, of all 32 entries.
-fn in_use(m: Machine) -> Use {
-    let mut running: u64 = 0;
-    let mut held: u64 = 0;
-    let mut i: usize = 0;
-    while i < Table::MOST {
-        let job = m.jobs[i];
-        let stage = job.stage;
-        running = std::num::wrapping_add_u64(running, one_if_runs(stage));
-        held = held | job.held;
-        i += 1;
-    }
-    Use {
-        running: running,
-        held: held,
+impl fmt::Display for Refused {
+    fn fmt<W: fmt::Write>(&self, f: &mut fmt::Formatter<W>) -> fmt::Result {
+        write!(f, "refused {}, row or task {}", self.0.number, self.0.row)
     }
 }
 
-fn say_machine<P: Print>(rt: &P, m: Machine) -> io::Result<()> {
-    let x = in_use(m);
-    say_number(rt, b"  tasks ", m.table.n as u64)?;
-    say_number(rt, b", running ", x.running)?;
-    say_number(rt, b", partitions held ", x.held)?;
-    say(rt, b"\n")
+// How many tasks there are and how many jobs run, and which partitions are held.
+fn tell_machine<P: Print>(rt: &P, m: &Machine) -> io::Result<()> {
+    let running = m.jobs.iter().filter(|job| job.stage.is_running()).count();
+    let held = m.jobs.iter().fold(0, |held, job| held | job.held);
+    println!(rt;
+        "  tasks {}, running {running}, partitions held {held}",
+        m.table.n
+    )
 }
 
 fn set_up<P: Print>(
     rt: &P,
-    name: &[u8],
-    old: Machine,
+    name: &str,
+    m: &mut Machine,
     platform: Platform,
-    rows: [Task; lending::MOST],
-    n: usize,
-) -> io::Result<Machine> {
-    let s = lending::set_up_from(old, platform, rows, n);
-    say(rt, name)?;
-    say(rt, b": ")?;
-    say_refusal(rt, s.refused)?;
-    say(rt, b"\n")?;
-    let next = s.machine;
-    say_machine(rt, next)?;
-    Ok(next)
+    rows: &[Task],
+) -> io::Result<()> {
+    let refused = Refused(gorsetumble_set_up(m, platform, rows));
+    println!(rt; "{name}: {refused}")?;
+    tell_machine(rt, m)
 }
 
-fn tick<P: Print>(rt: &P, m: Machine, released: u32, finished: u32) -> io::Result<Machine> {
-    let t = lent::ticked(m, released, finished);
-    say_number(rt, b"tick, released ", released as u64)?;
-    say_number(rt, b", finished ", finished as u64)?;
-    say(rt, b": ")?;
-    say_refusal(rt, t.answer.refused)?;
-    say_number(rt, b", late ", t.answer.late as u64)?;
-    say_number(rt, b", started ", t.answer.started as u64)?;
-    say(rt, b"\n")?;
-    let next = t.machine;
-    say_machine(rt, next)?;
-    Ok(next)
+fn tick<P: Print>(rt: &P, m: &mut Machine, released: u32, finished: u32) -> io::Result<()> {
+    let answer = gorsetumble_tick(m, released, finished);
+    let refused = Refused(answer.refused);
+    println!(rt;
+        "tick, released {released}, finished {finished}: {refused}, late {}, started {}",
+        answer.late, answer.started
+    )?;
+    tell_machine(rt, m)
 }
 
 fn row(d: u32, t: u32, c: u32, a: u32) -> Task {
     Task {
-        d: d,
-        t: t,
-        c: c,
+        d,
+        t,
+        c,
         a: Partitions(a),
     }
 }
@@ -106,59 +66,43 @@ fn platform(m: u32, p: u32) -> Platform {
     }
 }
 
-// Case P8.
-fn first_clinic() -> [Task; lending::MOST] {
-    let mut rows = [Task::none(); lending::MOST];
-    rows[0] = row(6, 6, 2, 1);
-    rows[1] = row(8, 8, 3, 2);
-    rows[2] = row(9, 9, 2, 2);
-    rows[3] = row(12, 12, 2, 1);
-    rows
-}
-
-// The last row of three asks for a partition more than there are.
-fn next_clinic() -> [Task; lending::MOST] {
-    let mut rows = [Task::none(); lending::MOST];
-    rows[0] = row(20, 20, 5, 2);
-    rows[1] = row(30, 30, 5, 1);
-    rows[2] = row(30, 30, 5, 3);
-    rows
-}
-
 fn main(rt: HostRuntime) -> io::Result<()> {
     let a = platform(3, 4);
     let b = platform(2, 2);
-    let never = Machine::fresh(Table::empty(a));
-    let first = set_up(&rt, b"the first clinic", never, a, first_clinic(), 4)?;
-    let at_work = tick(&rt, first, 15, 0)?;
-    let still = tick(&rt, at_work, 0, 0)?;
-    let refused = set_up(
+    // Case P8.
+    let first_clinic = [
+        row(6, 6, 2, 1),
+        row(8, 8, 3, 2),
+        row(9, 9, 2, 2),
+        row(12, 12, 2, 1),
+    ];
+    // The last row of the three asks for a partition more than there are, and the 30 behind it are of no task.
+    let mut next_clinic = [Task::none(); Table::MOST + 1];
+    next_clinic[0] = row(20, 20, 5, 2);
+    next_clinic[1] = row(30, 30, 5, 1);
+    next_clinic[2] = row(30, 30, 5, 3);
+
+    let mut m = Machine::fresh(&Table::empty(a));
+    set_up(&rt, "the first clinic", &mut m, a, &first_clinic)?;
+    tick(&rt, &mut m, 15, 0)?;
+    tick(&rt, &mut m, 0, 0)?;
+    set_up(
         &rt,
-        b"the next clinic, three rows",
-        still,
+        "the next clinic, three rows",
+        &mut m,
         b,
-        next_clinic(),
-        3,
+        &next_clinic[..3],
     )?;
-    let too_many = set_up(
+    set_up(&rt, "the next clinic, 33 rows", &mut m, b, &next_clinic)?;
+    tick(&rt, &mut m, 0, 1)?;
+    set_up(
         &rt,
-        b"the next clinic, 33 rows",
-        refused,
+        "the next clinic, two rows",
+        &mut m,
         b,
-        next_clinic(),
-        lending::MOST,
+        &next_clinic[..2],
     )?;
-    let goes_on = tick(&rt, too_many, 0, 1)?;
-    let next = set_up(
-        &rt,
-        b"the next clinic, two rows",
-        goes_on,
-        b,
-        next_clinic(),
-        2,
-    )?;
-    let named = tick(&rt, next, 0, 4)?;
-    let unknown = tick(&rt, named, 0, 2)?;
-    tick(&rt, unknown, 3, 0)?;
-    Ok(())
+    tick(&rt, &mut m, 0, 4)?;
+    tick(&rt, &mut m, 0, 2)?;
+    tick(&rt, &mut m, 3, 0)
 }

@@ -8,7 +8,7 @@ use lib.Seq.{append_snoc}
 use Rattle.forms.specs.Digits.{digits}
 use Rattle.forms.proofs.Digits.{one-digit, split-digit, width_one, width_more, width_some, width_most}
 use Rattle.writers.specs.declared.Cell.{Cell}
-use Rattle.writers.specs.Cells.{held, Prefixed}
+use Rattle.writers.specs.Code.Cells.{held, Prefixed}
 
 -- the digits of rest are to come before the bytes from a place on, and then those of n have
 pub record Spelling (before : Cell) (n rest : ℕ) (bytes : List ℕ) (at : ℕ) : Type 0 where

@@ -2,13 +2,13 @@
 // where it goes: it is measured first, and where it does not fit, nothing is changed.
 #![tactic(auto)]
 
-ghost use Rattle.std.specs.Prelude.{ℕ, ◌+◌, ◌-◌, ◌<◌, ◌≤◌, ◌≡◌, IfNone, List, [], ◌∷◌, ◌++◌, leb, length, drop};
+ghost use Rattle.std.specs.Prelude.{ℕ, true, ◌+◌, ◌-◌, ◌<◌, ◌≤◌, ◌≡◌, IfNone, List, [], ◌∷◌, ◌++◌, leb, length, drop};
 ghost use Rattle.forms.specs.Digits.{digits};
 ghost use Rattle.forms.specs.Forms.{ending, line};
 ghost use Rattle.table.specs.Limits.{most_tasks};
 ghost use Rattle.table.specs.Refused.{no_refusal};
 ghost use Rattle.writers.specs.Outputs.{task_row, platform_text, tasks_text, reports_text, refused_text, margins_text};
-ghost use Rattle.writers.specs.Places.{room_left, measured, measure_laws, room_behind, written_at, cursor_laws};
+ghost use Rattle.writers.specs.Code.Places.{room_left, measured, measure_laws, room_behind, written_at, cursor_laws};
 ghost use Rattle.writers.specs.Signed.{margin_of, sign, margin_row};
 ghost use Rattle.writers.specs.Sinks.{SinkLaws, Took};
 ghost use Rattle.writers.specs.Written.{too_short, Wrote, WroteBoth};
@@ -85,12 +85,15 @@ impl Sink for Cursor<'_> {
 pub trait Text {
     ghost bytes: { Self → List ℕ };
 
-    // where its text is asked for
-    ghost can_put: { Self → Type 0 } = { λ _. Unit {0} };
-
     fn put<S: Sink>(&self, sink: &mut S) -> Option<()>
-        requires { can_put self.now }
         ensures { Took S.room S.put sink.old (bytes self.now) result sink.new };
+
+    // Whether the text has so much room for sure: where that is told without the walk, it is not measured.
+    fn surely_fits(&self, room: usize) -> bool
+        ensures { result ≡ true → length (bytes self.now) ≤ room }
+    {
+        false
+    }
 }
 
 #[repr(C)]
@@ -122,7 +125,6 @@ impl Written {
 
 // Whether the text has room.
 pub fn fits<T: Text>(text: &T, room: usize) -> bool
-    requires { T.can_put text.now }
     ensures { result ≡ leb (length (T.bytes text.now)) room }
 {
     let mut measure = Measure { left: room };
@@ -130,8 +132,8 @@ pub fn fits<T: Text>(text: &T, room: usize) -> bool
 }
 
 // A text that is known to have room.
-pub fn write_fitting<T: Text>(text: &T, buf: &mut [u8]) -> Written
-    requires { T.can_put text.now × (length (T.bytes text.now) ≤ length buf.old) }
+fn write_fitting<T: Text>(text: &T, buf: &mut [u8]) -> Written
+    requires { length (T.bytes text.now) ≤ length buf.old }
     ensures { Wrote (T.bytes text.now) buf.old result buf.new }
 {
     let mut cursor = Cursor { buf, at: 0 };
@@ -141,10 +143,9 @@ pub fn write_fitting<T: Text>(text: &T, buf: &mut [u8]) -> Written
 
 // The text, where the buffer has room for it.
 pub fn write<T: Text>(text: &T, buf: &mut [u8]) -> Written
-    requires { T.can_put text.now }
     ensures { Wrote (T.bytes text.now) buf.old result buf.new }
 {
-    if !fits(text, buf.len()) {
+    if !text.surely_fits(buf.len()) && !fits(text, buf.len()) {
         return Written::short();
     }
     write_fitting(text, buf)
@@ -159,7 +160,7 @@ struct Cell {
 }
 
 impl Cell {
-    ghost use Rattle.writers.specs.Cells.{Prefixed, held};
+    ghost use Rattle.writers.specs.Code.Cells.{Prefixed, held};
 
     // Twenty digits, CR and LF.
     const MOST: usize = 22;

@@ -5,7 +5,7 @@ use Rattle.writers.proofs.write_fitting.Goals as goal
 
 pub returns : goal.returns
 returns g c =
-    let fits = c.requires.1 in
+    let fits = c.requires in
     let put = took_fitting c.put.ensures (omega arith) in
     let at = ap (λ s. s.at) put in
     wrote_put _ _ _ _ fits (c.whole.ensures ∙ ap (λ n. record { refused = _; length = n }) at)

@@ -1,5 +1,5 @@
 // Whole texts from C: the quick verdict, set-up, what the programs `admit`, `rehearse` and `ticks` write of texts that
-// are there, and the writers.
+// are there, and the writers. Each takes what C passes: two texts side by side, a table by value, a buffer.
 ghost use Rattle.std.specs.Prelude.{◌≡◌, Some};
 ghost use Rattle.std.specs.Option.{option_copied};
 ghost use Rattle.texts.specs.Admit.{admit_text};
@@ -62,6 +62,7 @@ fn read_texts(platform: &[u8], tasks: &[u8]) -> Result<Table, Failure>
     readers::read_tasks(tasks, held).map_err(Failure::Tasks)
 }
 
+// A fresh machine of the two in the place of the old one.
 fn set_up(m: &mut Machine, platform: &[u8], tasks: &[u8]) -> Result<(), Failure>
     ensures answer { result ≡ renewed (texts_read platform.now tasks.now) }
     ensures machine { m.new ≡ (set_up_texts m.old platform.now tasks.now).machine }

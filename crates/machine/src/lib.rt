@@ -31,7 +31,7 @@ pub struct Machine {
     pub jobs: [Job; Table::MOST],
 }
 
-// What a tick answers: three sets of tasks, or the refusal.
+// What a tick answers: three sets of tasks, or the refusal; both in one record, since C gets it.
 #[repr(C)]
 #[derive(Clone, Copy)]
 pub struct Answer {

@@ -65,15 +65,6 @@ struct Listing<'a> {
     ghost counted: { CountedTicks text.now count },
 }
 
-impl Listing<'_> {
-    // Whether the longest listing of so many ticks has room.
-    fn surely_fits(&self, room: usize) -> bool
-        ensures { result ≡ leb (listing_most self.now.count) room }
-    {
-        HEADER.len() <= room && self.count <= (room - HEADER.len()) / ROW
-    }
-}
-
 impl Text for Listing<'_> {
     ghost bytes = { λ l. run_text l.machine (ticks_in l.text.now) };
 
@@ -89,16 +80,10 @@ impl Text for Listing<'_> {
         }
         Some(())
     }
-}
 
-// Only where the buffer could be too short are the ticks run to measure the listing.
-fn write_listing(listing: &Listing, out: &mut [u8]) -> Written
-    ensures { Wrote (run_text listing.now.machine (ticks_in listing.now.text.now)) out.old result out.new }
-{
-    if listing.surely_fits(out.len()) {
-        writers::write_fitting(listing, out)
-    } else {
-        writers::write(listing, out)
+    // Where the longest listing of so many ticks has room, the ticks are not run to measure theirs.
+    fn surely_fits(&self, room: usize) -> bool {
+        HEADER.len() <= room && self.count <= (room - HEADER.len()) / ROW
     }
 }
 
@@ -131,7 +116,7 @@ pub fn ticks(unit: UnitTexts, ticks: Option<&[u8]>, out: &mut [u8]) -> Written
                 text,
                 count,
             };
-            write_listing(&listing, out)
+            writers::write(&listing, out)
         }
         Err(refusal) => writers::write_refused(refusal, out),
     }

@@ -79,7 +79,8 @@ told-judged old t = by (eqb (refusal t).number 0) refl
     by true e = ap (λ (r : Refusal). record { refused = r; text = 0 }) (sym (refusal-none t e))
     by false e = refl
 
-told-texts : (old : Machine) (x y : Answer (List (List ℕ))) → said (renewed (read_of x y)) ≡ (set_up_read old x y).refused
+told-texts : (old : Machine) (x y : Answer (List (List ℕ)))
+    → said (renewed (read_of x y)) ≡ (set_up_read old x y).refused
 told-texts old (refused offset) y = refl
 told-texts old (found rows) (refused offset) = refl
 told-texts old (found rows) (found tasks) = told-judged old (table_from rows tasks)

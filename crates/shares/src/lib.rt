@@ -16,8 +16,8 @@ use writers::{Sink, Text, Written};
 
 const HEADER: &[u8] = b"task,other,interference,weight,share\r\n";
 
-// The longest row: five numbers of at most 20 digits, commas and CR LF. `runs` says it of its own columns: neither crate
-// stands on the other.
+// The longest row: five numbers of at most 20 digits, commas and CR LF. `runs` says it of its own columns: neither
+// crate stands on the other.
 const ROW: usize = 5 * (20 + 1) + 1;
 
 // The most that the program "explain" writes: it lends so much, and refusal 16 cannot come up.

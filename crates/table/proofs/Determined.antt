@@ -11,7 +11,7 @@ use Rattle.table.specs.declared.Refusal.{Refusal}
 use Rattle.table.specs.Limits.{most_tasks}
 use Rattle.table.specs.Tasks.{no_task, empty_table}
 use Rattle.table.specs.Refused.{sizes_refusal, row_refusal, refusal}
-use Rattle.table.specs.Reasons.{number_of, outcome}
+use Rattle.table.specs.Reasons.{number_of, outcome, refusal_for}
 use Rattle.table.proofs.Laws.{same-number}
 
 pub none-determined : (r s : Task) → r ≡ no_task → s ≡ no_task → r ≡ s
@@ -35,3 +35,7 @@ check-determined t = determined (outcome (refusal t))
 pub sizes-determined : (t : Table) (r s : Result Unit Reason) → number_of r ≡ sizes_refusal t
     → number_of s ≡ sizes_refusal t → r ≡ s
 sizes-determined t r s e f = same-number r s (e ∙ sym f)
+
+pub refusal-determined : (reason : Reason) (row : ℕ) (r s : Refusal) → r ≡ refusal_for reason row
+    → s ≡ refusal_for reason row → r ≡ s
+refusal-determined reason row = determined (refusal_for reason row)

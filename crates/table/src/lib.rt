@@ -62,7 +62,8 @@ pub struct Table {
     pub rows: [Task; Table::MOST],
 }
 
-// A reason by its number, and the row or task concerned, as C gets it. Number 0 is no refusal: only C's records have it.
+// A reason by its number, and the row or task concerned, as C gets it. Number 0 is no refusal: C's records alone have
+// it.
 #[repr(C)]
 #[derive(Clone, Copy)]
 pub struct Refusal {

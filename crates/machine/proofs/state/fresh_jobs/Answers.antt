@@ -15,7 +15,8 @@ loop-i-init c = rw c.none-none.ensures (up_none most_tasks (fresh_job c.args.t.n
 
 pub loop-i-preserved : goal.loop-i-preserved
 loop-i-preserved c =
-    rw (c.none-none.ensures, c.loop-i.invariant) (up_more most_tasks (fresh_job c.args.t.now) (λ k. no_job) c.loop-i.i (search rules))
+    rw (c.none-none.ensures, c.loop-i.invariant)
+    (up_more most_tasks (fresh_job c.args.t.now) (λ k. no_job) c.loop-i.i (search rules))
 
 pub returns : goal.returns
 unfolding fresh

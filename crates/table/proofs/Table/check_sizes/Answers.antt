@@ -1,6 +1,7 @@
 use Rattle.maths.proofs.Tests.{tests}
 use Rattle.table.specs.Refused.{table_rules}
-use Rattle.table.proofs.Table.check_sizes.Goals.{then-self-lt1-via-then-self-lt1, then-self-lt1-via-else-self-lt1+then-self-gt-MOST}
+use Rattle.table.proofs.Table.check_sizes.Goals.{then-self-lt1-via-then-self-lt1}
+use Rattle.table.proofs.Table.check_sizes.Goals.{then-self-lt1-via-else-self-lt1+then-self-gt-MOST}
 use Rattle.table.proofs.Table.check_sizes.Goals.{then-m-lt1-via-then-m-lt1, then-m-lt1-via-else-m-lt1+then-m-gt-MOST}
 use Rattle.table.proofs.Table.check_sizes.Goals.{then-p-lt1-via-then-p-lt1, then-p-lt1-via-else-p-lt1+then-p-gt-MOST}
 use Rattle.table.proofs.Table.check_sizes.Goals as goal

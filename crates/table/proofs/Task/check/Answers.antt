@@ -1,6 +1,7 @@
 use Rattle.maths.proofs.Tests.{tests}
 use Rattle.table.specs.Refused.{row_rules}
-use Rattle.table.proofs.Task.check.Goals.{then-self-lt1-via-then-self-lt1, then-self-lt1-via-else-self-lt1+then-self-gt-LONGEST}
+use Rattle.table.proofs.Task.check.Goals.{then-self-lt1-via-then-self-lt1}
+use Rattle.table.proofs.Task.check.Goals.{then-self-lt1-via-else-self-lt1+then-self-gt-LONGEST}
 use Rattle.table.proofs.Task.check.Goals as goal
 
 pub returns-then-self-lt1 : goal.returns-then-self-lt1

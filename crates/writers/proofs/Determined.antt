@@ -5,7 +5,7 @@ use Rattle.maths.proofs.Determined.{determined, determined-both}
 use Rattle.writers.specs.declared.Written.{Written}
 use Rattle.writers.specs.declared.TextsWritten.{TextsWritten}
 use Rattle.writers.specs.Sinks.{Took}
-use Rattle.writers.specs.Written.{Wrote, WroteBoth}
+use Rattle.writers.specs.Written.{room_for, Wrote, WroteBoth}
 
 pub wrote_determined : (text buffer : List ℕ) (r s : Written) (a b : List ℕ)
     → Wrote text buffer r a → Wrote text buffer s b → (r ≡ s) × (a ≡ b)
@@ -40,6 +40,10 @@ module _ {S : Type 0} (room : S → ℕ) (put : S → List ℕ → S) (before : 
           → IfNone o (a ≡ before) → IfNone o (b ≡ before) → a ≡ b
       after (Some tt) f g k m = f.holds refl ∙ sym (g.holds refl)
       after None f g k m = k ∙ sym m
+
+pub room_determined : (text : List ℕ) (room : ℕ) (r s : Option ℕ) → r ≡ room_for text room → s ≡ room_for text room
+    → r ≡ s
+room_determined text room = determined (room_for text room)
 
 pub fits_determined : (text : List ℕ) (room : ℕ) (r s : Bool) → r ≡ leb (length text) room → s ≡ leb (length text) room
     → r ≡ s

@@ -1,6 +1,6 @@
 -- What a writer gives and leaves: the text at the front of the buffer with the bytes past it as they were, or refusal
 -- 16 where the text is longer than the buffer, and then nothing is changed.
-use Rattle.std.specs.Prelude.{ℕ, ◌≡◌, Bool, cond, ◌&&◌, List, ◌++◌, leb, length, drop}
+use Rattle.std.specs.Prelude.{ℕ, ◌-◌, ◌≡◌, Option, None, Some, Bool, cond, ◌&&◌, List, ◌++◌, leb, length, drop}
 use Rattle.table.specs.declared.Refusal.{Refusal}
 use Rattle.table.specs.Refused.{no_refusal}
 use Rattle.writers.specs.declared.Written.{Written}
@@ -34,3 +34,7 @@ pub record WroteBoth (a b first second : List ℕ) (answer : TextsWritten) (afte
       (record { refused = too_short; platform = 0; tasks = 0 })
   pub holds₁ : after₁ ≡ cond (both_fit a b first second) (a ++ drop (length a) first) first
   pub holds₂ : after₂ ≡ cond (both_fit a b first second) (b ++ drop (length b) second) second
+
+-- what a text leaves of some room, where it has so much
+abbrev pub room_for : List ℕ → ℕ → Option ℕ
+room_for text room = cond (leb (length text) room) (Some (room - length text)) None

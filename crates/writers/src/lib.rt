@@ -11,7 +11,7 @@ ghost use Rattle.writers.specs.Outputs.{task_row, platform_text, tasks_text, rep
 ghost use Rattle.writers.specs.Code.Places.{room_left, measured, measure_laws, room_behind, written_at, cursor_laws};
 ghost use Rattle.writers.specs.Signed.{margin_of, sign, margin_row};
 ghost use Rattle.writers.specs.Sinks.{SinkLaws, Took};
-ghost use Rattle.writers.specs.Written.{too_short, Wrote, WroteBoth};
+ghost use Rattle.writers.specs.Written.{too_short, room_for, Wrote, WroteBoth};
 
 use table::{Platform, Reason, Refusal, Table, Task};
 
@@ -123,12 +123,20 @@ impl Written {
     }
 }
 
+// What is left of some room behind the text, where it has so much.
+pub fn room_behind<T: Text>(text: &T, room: usize) -> Option<usize>
+    ensures { result ≡ room_for (T.bytes text.now) room }
+{
+    let mut measure = Measure { left: room };
+    text.put(&mut measure)?;
+    Some(measure.left)
+}
+
 // Whether the text has room.
 pub fn fits<T: Text>(text: &T, room: usize) -> bool
     ensures { result ≡ leb (length (T.bytes text.now)) room }
 {
-    let mut measure = Measure { left: room };
-    text.put(&mut measure).is_some()
+    room_behind(text, room).is_some()
 }
 
 // A text that is known to have room.
@@ -231,6 +239,30 @@ pub fn put_row<S: Sink>(numbers: &[u64], sink: &mut S) -> Option<()>
         put_cell(*n, numbers.len() - i - 1, sink)?;
     }
     Some(())
+}
+
+// A word by itself.
+#[derive(Clone, Copy)]
+pub struct Word<'a>(pub &'a [u8]);
+
+impl Text for Word<'_> {
+    ghost bytes = { λ word. word.0.now };
+
+    fn put<S: Sink>(&self, sink: &mut S) -> Option<()> {
+        sink.word(self.0)
+    }
+}
+
+// A row of numbers by itself.
+#[derive(Clone, Copy)]
+pub struct Row<'a>(pub &'a [u64]);
+
+impl Text for Row<'_> {
+    ghost bytes = { λ row. line row.0.now };
+
+    fn put<S: Sink>(&self, sink: &mut S) -> Option<()> {
+        put_row(self.0, sink)
+    }
 }
 
 impl Text for Platform {

@@ -17,7 +17,7 @@ pub fn has_task(x: u32, k: usize) -> bool
     if k < 1 || Table::MOST < k {
         return false;
     }
-    (x >> ((k - 1) as u32)) % 2 == 1
+    (x >> (k - 1)) % 2 == 1
 }
 
 // The set of task k alone.
@@ -27,7 +27,7 @@ pub fn task_bit(k: usize) -> u32
     if k < 1 || Table::MOST < k {
         return 0;
     }
-    1u32 << ((k - 1) as u32)
+    1u32 << (k - 1)
 }
 
 // How many partitions the set has.

@@ -192,6 +192,7 @@ impl Refusal {
         ensures { result ≡ refusal_for reason row }
     {
         Refusal {
+            // as Rust numbers an enum: there is no From of it
             number: reason as u32,
             row,
         }

@@ -56,7 +56,8 @@ struct Past {
 }
 
 // What a tick's second pass made so far: the job that it came to last; whether step 5 goes on, with how many idle
-// cores, which idle partitions and how many; and the sets to answer.
+// cores, which idle partitions and how many; and the sets to answer. `goes` stands beside the counts, and no Option round
+// them, since each task that does not start hands all of them on as they are.
 #[derive(Clone, Copy)]
 pub struct Walk {
     job: Job,
@@ -104,6 +105,7 @@ pub fn tick(m: &mut Machine, released: u32, finished: u32) -> Answer
         },
         Ok(busy) => {
             let walk = move_jobs(m, report, busy);
+            // C's record has number 0 for no refusal.
             Answer {
                 refused: Refusal { number: 0, row: 0 },
                 finished,

@@ -96,6 +96,7 @@ pub trait Text {
     }
 }
 
+// C's record, as is that of two texts: refusal 0 and the length stand for Ok, the refusal and 0 for Err.
 #[repr(C)]
 #[derive(Clone, Copy)]
 pub struct Written {
@@ -289,6 +290,7 @@ impl Text for Refusal {
 
     fn put<S: Sink>(&self, sink: &mut S) -> Option<()> {
         sink.word(b"refused,row\r\n")?;
+        // `as`: there is no From of usize.
         put_row(&[u64::from(self.number), self.row as u64], sink)
     }
 }
@@ -331,7 +333,8 @@ pub fn write_tasks(t: &Table, buf: &mut [u8]) -> Written
     write(t, buf)
 }
 
-// A margin for the listing: whether it is negative, its size, and 1 where it is above 0.
+// A margin for the listing: whether it is negative, its size, and 1 where it is above 0. `below` is its sign, no flag
+// that tells whether the others count.
 #[derive(Clone, Copy)]
 struct Margin {
     below: bool,
@@ -377,6 +380,7 @@ impl Text for Margins<'_> {
     fn put<S: Sink>(&self, sink: &mut S) -> Option<()> {
         sink.word(b"task,margin,pass\r\n")?;
         for (i, z) in self.0[..self.0.len().min(Table::MOST)].iter().enumerate() {
+            // `as`: there is no From of usize.
             Margin::of(*z).put_row(i as u64 + 1, sink)?;
         }
         Some(())

@@ -239,7 +239,8 @@ pub fn read_ticks(s: &[u8]) -> Result<usize, Refusal>
     Ok(n)
 }
 
-// The tick at a place, and the place behind it; of a text that read_ticks accepts, from Tick::FIRST on.
+// The tick at a place, and the place behind it; of a text that read_ticks accepts, from Tick::FIRST on. No Result: it
+// could not fail, and where no tick stands it answers two empty sets.
 pub fn tick_at(s: &[u8], at: usize) -> TickRead
     ensures { result ≡ tick_at s.now at }
 {

@@ -30,7 +30,8 @@ impl Listing for Rehearse {
     ghost fits = { rehearse_fits };
 }
 
-// What the files give, and how long it is. The buffer is never too short.
+// What the files give, and how long it is. The buffer is never too short: what is said here is said of this program's
+// own buffer.
 fn put_listing<R: Files>(rt: &R, out: &mut [u8; LISTING]) -> Written
     ensures { (result.refused ≡ no_refusal) × Whole result.length out.new }
 {

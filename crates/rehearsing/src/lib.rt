@@ -25,6 +25,7 @@ fn run(t: &Table, l: u32) -> Rehearsal
 {
     let mut track = Track::new(t.platform);
     let mut i: u32 = 0;
+    // No `for`: it leaps from event to event.
     loop {
         if let Some(task) = track.settle_all(t, i) {
             return track.ended(Some((i, task)));

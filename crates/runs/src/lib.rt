@@ -109,7 +109,7 @@ pub fn ticks(unit: UnitTexts, ticks: Option<&[u8]>, out: &mut [u8]) -> Written
 {
     match judged_run(unit, ticks) {
         Ok((machine, count)) => {
-            // there, as it was read
+            // A missing text was refused above, so that the empty one never stands in for it.
             let text = ticks.unwrap_or(&[]);
             let listing = Listing {
                 machine,

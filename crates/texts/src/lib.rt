@@ -43,6 +43,7 @@ fn take(text: Option<&[u8]>) -> Result<&[u8], Refusal>
     }
 }
 
+// Three functions and no generic one: three readers, of three types.
 fn take_platform(text: Option<&[u8]>) -> Result<Platform, Refusal>
     ensures { result ≡ platform_read (taken platform_form (option_copied text.entry)) }
 {
@@ -125,6 +126,7 @@ pub fn quick_verdict(platform: &[u8], tasks: &[u8]) -> u32
 {
     match first_failing(platform, tasks) {
         Ok(None) => 0,
+        // `as`: k is at most 32, and TryFrom would have an Err that never comes.
         Ok(Some(k)) => 100 + k as u32,
         Err(refusal) => refusal.number,
     }

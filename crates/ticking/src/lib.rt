@@ -56,8 +56,8 @@ struct Past {
 }
 
 // What a tick's second pass made so far: the job that it came to last; whether step 5 goes on, with how many idle
-// cores, which idle partitions and how many; and the sets to answer. `goes` stands beside the counts, and no Option round
-// them, since each task that does not start hands all of them on as they are.
+// cores, which idle partitions and how many; and the sets to answer. `goes` is no flag over the counts: they are the
+// machine's when step 5 has ended too, and the proof of a rehearsal holds its own to them.
 #[derive(Clone, Copy)]
 pub struct Walk {
     job: Job,

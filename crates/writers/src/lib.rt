@@ -80,8 +80,7 @@ impl Sink for Cursor<'_> {
     }
 }
 
-// What has a text. As std's Display, but what is written of a text that ends early is known here, and no format is
-// read while it is written.
+// What has a text. As std's Display, but whether a text has room is told exactly, and no format is read.
 pub trait Text {
     ghost bytes: { Self → List ℕ };
 
@@ -206,6 +205,7 @@ impl Cell {
     }
 
     // How many digits there are is found on the way: no `for`. The place is a local of the loop, to stay in a register.
+    // `as u8`: a digit, where TryFrom would have an Err that never comes.
     fn push_digits(&mut self, n: u64)
         requires { 20 ≤ self.old.from }
         ensures { Prefixed self.old (digits n) self.new }
@@ -394,7 +394,8 @@ pub fn write_margins(margins: &[i64], buf: &mut [u8]) -> Written
     write(&Margins(margins), buf)
 }
 
-// What was released and what finished, tick by tick.
+// What was released and what finished, tick by tick. Two slices: `WritesBack` speaks of two lists, of unequal length
+// too, and so does `write_ticks`.
 #[derive(Clone, Copy)]
 struct Ticks<'a> {
     released: &'a [u32],

@@ -1,5 +1,5 @@
-// The functions of crate gorsetumble as C calls them: each export calls the function of its name, with its clauses. They
-// stand twice, since a crate is a library for Rattle or an archive for C.
+// The functions of crate gorsetumble as C calls them: each export calls the function of its name, with its clauses.
+// They stand twice, since a crate is a library for Rattle or an archive for C.
 #![tactic(auto)]
 
 ghost use Rattle.std.specs.Prelude.{◌≡◌, Some};

@@ -1,11 +1,11 @@
 // The task table of a unit and its platform, the limits of each, and refusals 1 to 8 of document 01.
 #![tactic(auto)]
 
-ghost use Rattle.std.specs.Prelude.{min, ◌≤◌, ◌≡◌};
+ghost use Rattle.std.specs.Prelude.{min, take, ◌≤◌, ◌≡◌};
 ghost use Rattle.table.specs.Limits.{most_tasks, most_cores, most_partitions, longest_period};
 ghost use Rattle.table.specs.Refused.{sizes_refusal, row_refusal, rows_refusal, refusal};
 ghost use Rattle.table.specs.Reasons.{number_of, outcome, refusal_for};
-ghost use Rattle.table.specs.Tasks.{no_task, empty_table};
+ghost use Rattle.table.specs.Tasks.{no_task, empty_table, table_of};
 
 // Why something is refused: document 01 numbers the reasons.
 #[derive(Clone, Copy, PartialEq, Eq)]
@@ -137,6 +137,28 @@ impl Table {
         n.min(Table::MOST)
     }
 
+    // The table of a row of tasks: their whole count, and the first of them as far as a table goes.
+    pub fn of(platform: Platform, rows: &[Task]) -> Table
+        ensures { result ≡ table_of platform rows.now }
+    {
+        let n = rows.len();
+        let kept = Table::entries(n);
+        let mut first = [Task::none(); Table::MOST];
+        first[..kept].copy_from_slice(&rows[..kept]);
+        Table {
+            platform,
+            n,
+            rows: first,
+        }
+    }
+
+    // Tasks 1 to n, as far as they are there.
+    pub fn tasks(&self) -> &[Task]
+        ensures { result.now ≡ take self.now.n self.now.rows }
+    {
+        &self.rows[..Table::entries(self.n)]
+    }
+
     // The first of refusals 1 to 3.
     pub fn check_sizes(&self) -> Result<(), Reason>
         ensures { number_of result ≡ sizes_refusal self.now }
@@ -188,6 +210,9 @@ impl From<Reason> for Refusal {
 }
 
 impl Refusal {
+    // What C's records have for no refusal.
+    pub const NONE: Refusal = Refusal { number: 0, row: 0 };
+
     pub fn new(reason: Reason, row: usize) -> Refusal
         ensures { result ≡ refusal_for reason row }
     {

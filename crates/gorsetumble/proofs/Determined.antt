@@ -3,6 +3,7 @@
 use Prim.Native.Nat.{ℕ}
 use mathlib.Core.Path.{◌≡◌}
 use mathlib.Core.List.{List}
+use lib.ListN.{take}
 use Rattle.maths.proofs.Determined.{determined, determined-both}
 use Rattle.table.specs.declared.Platform.{Platform}
 use Rattle.table.specs.declared.Task.{Task}
@@ -12,7 +13,7 @@ use Rattle.admission.specs.declared.FullAnswer.{FullAnswer}
 use Rattle.admission.specs.declared.QuickAnswer.{QuickAnswer}
 use Rattle.admission.specs.Answers.{full_answer, quick_answer}
 use Rattle.machine.specs.declared.Machine.{Machine}
-use Rattle.machine.specs.Fresh.{set_up}
+use Rattle.machine.specs.Fresh.{SetUp, set_up}
 use Rattle.rehearsal.specs.declared.Rehearsal.{Rehearsal}
 use Rattle.rehearsal.specs.Rehearsal.{rehearsed}
 use Rattle.gorsetumble.specs.declared.texting.TextRefusal.{TextRefusal}
@@ -35,6 +36,11 @@ module _ (p : Platform) (rows : List Task) where
       → (r ≡ (set_up m (table_of p rows)).refused) × (a ≡ (set_up m (table_of p rows)).machine)
       → (s ≡ (set_up m (table_of p rows)).refused) × (b ≡ (set_up m (table_of p rows)).machine) → (r ≡ s) × (a ≡ b)
   set-up-determined m = determined-both (set_up m (table_of p rows)).refused (set_up m (table_of p rows)).machine
+
+  -- of the first n of the rows, and of what set-up comes to as one record
+  pub set-up-from-determined : (m : Machine) (n : ℕ) (r s : SetUp) → r ≡ set_up m (table_of p (take n rows))
+      → s ≡ set_up m (table_of p (take n rows)) → r ≡ s
+  set-up-from-determined m n = determined (set_up m (table_of p (take n rows)))
 
 pub set-up-texts-determined : (m : Machine) (platform tasks : List ℕ) (r s : TextRefusal) (a b : Machine)
     → (r ≡ (set_up_texts m platform tasks).refused) × (a ≡ (set_up_texts m platform tasks).machine)

@@ -5,7 +5,7 @@ use Rattle.maths.proofs.Determined.{determined, determined-both}
 use Rattle.writers.specs.declared.Written.{Written}
 use Rattle.writers.specs.declared.TextsWritten.{TextsWritten}
 use Rattle.writers.specs.Sinks.{Took}
-use Rattle.writers.specs.Written.{room_for, Wrote, WroteBoth}
+use Rattle.writers.specs.Written.{room_for, Wrote, WroteBoth, Added}
 
 pub wrote_determined : (text buffer : List ℕ) (r s : Written) (a b : List ℕ)
     → Wrote text buffer r a → Wrote text buffer s b → (r ≡ s) × (a ≡ b)
@@ -40,6 +40,10 @@ module _ {S : Type 0} (room : S → ℕ) (put : S → List ℕ → S) (before : 
           → IfNone o (a ≡ before) → IfNone o (b ≡ before) → a ≡ b
       after (Some tt) f g k m = f.holds refl ∙ sym (g.holds refl)
       after None f g k m = k ∙ sym m
+
+pub added_determined : (buffer : List ℕ) (at : ℕ) (text : List ℕ) (r s : ℕ) (a b : List ℕ)
+    → Added buffer at text r a → Added buffer at text s b → (r ≡ s) × (a ≡ b)
+added_determined buffer at text r s a b p q = determined-both _ _ r s a b (p.behind, p.holds) (q.behind, q.holds)
 
 pub room_determined : (text : List ℕ) (room : ℕ) (r s : Option ℕ) → r ≡ room_for text room → s ≡ room_for text room
     → r ≡ s

@@ -1,6 +1,7 @@
 -- What a writer gives and leaves: the text at the front of the buffer with the bytes past it as they were, or refusal
 -- 16 where the text is longer than the buffer, and then nothing is changed.
-use Rattle.std.specs.Prelude.{ℕ, ◌-◌, ◌≡◌, Option, None, Some, Bool, cond, ◌&&◌, List, ◌++◌, leb, length, drop}
+use Rattle.std.specs.Prelude.{ℕ, ◌+◌, ◌-◌, ◌≡◌, Option, None, Some, Bool, cond, ◌&&◌, List, ◌++◌, leb, length, drop}
+use Rattle.std.proofs.lemmas.List.Edits.{sets}
 use Rattle.table.specs.declared.Refusal.{Refusal}
 use Rattle.table.specs.Refused.{no_refusal}
 use Rattle.writers.specs.declared.Written.{Written}
@@ -38,3 +39,11 @@ pub record WroteBoth (a b first second : List ℕ) (answer : TextsWritten) (afte
 -- what a text leaves of some room, where it has so much
 abbrev pub room_for : List ℕ → ℕ → Option ℕ
 room_for text room = cond (leb (length text) room) (Some (room - length text)) None
+
+-- a text put only if it has room from its place on
+abbrev pub fits_at : List ℕ → ℕ → List ℕ → Bool
+fits_at buffer at text = leb (at + length text) (length buffer)
+
+pub record Added (buffer : List ℕ) (at : ℕ) (text : List ℕ) (next : ℕ) (after : List ℕ) : Type 0 where
+  pub behind : next ≡ cond (fits_at buffer at text) (at + length text) at
+  pub holds : after ≡ cond (fits_at buffer at text) (sets buffer at text) buffer

@@ -11,7 +11,7 @@ ghost use Rattle.writers.specs.Outputs.{task_row, platform_text, tasks_text, rep
 ghost use Rattle.writers.specs.Code.Places.{room_left, measured, measure_laws, room_behind, written_at, cursor_laws};
 ghost use Rattle.writers.specs.Signed.{margin_of, sign, margin_row};
 ghost use Rattle.writers.specs.Sinks.{SinkLaws, Took};
-ghost use Rattle.writers.specs.Written.{too_short, room_for, Wrote, WroteBoth};
+ghost use Rattle.writers.specs.Written.{too_short, room_for, Wrote, WroteBoth, Added};
 
 use table::{Platform, Reason, Refusal, Table, Task};
 
@@ -157,6 +157,18 @@ pub fn write<T: Text>(text: &T, buf: &mut [u8]) -> Written
         return Written::short();
     }
     write_fitting(text, buf)
+}
+
+// The text at a place of the buffer, if it has room there, and the place behind it.
+pub fn add<T: Text>(text: &T, buf: &mut [u8], at: usize) -> usize
+    ensures { Added buf.old at (T.bytes text.now) result buf.new }
+{
+    if buf.len() < at || !fits(text, buf.len() - at) {
+        return at;
+    }
+    let mut cursor = Cursor { buf, at };
+    text.put(&mut cursor);
+    cursor.at
 }
 
 // The bytes of a number with what ends it, from a place on.

@@ -39,6 +39,6 @@ module _ (offset : ℕ) where
       → s ≡ table_read no_platform (refused offset) → r ≡ s
   bad-table-determined = determined (table_read no_platform (refused offset))
 
-  pub bad-ticks-determined : (r s : Result ℕ Refusal) → r ≡ ticks_read (refused offset) → s ≡ ticks_read (refused offset)
-      → r ≡ s
+  pub bad-ticks-determined : (r s : Result ℕ Refusal) → r ≡ ticks_read (refused offset)
+      → s ≡ ticks_read (refused offset) → r ≡ s
   bad-ticks-determined = determined (ticks_read (refused offset))

@@ -18,12 +18,10 @@ use writers::{Sink, Text, Written};
 
 const HEADER: &[u8] = b"tick,refused,finished,late,started\r\n";
 
-// The longest row: five numbers of at most 20 digits, commas and CR LF.
-const ROW: usize = 5 * (20 + 1) + 1;
-
 // The most that the program "ticks" writes: it lends so much, and refusal 16 cannot come up. A tick takes at least 5
 // bytes of its text.
-pub const TICKS_MOST: usize = HEADER.len() + ROW * ((texts::LONGEST - Tick::FIRST) / 5);
+pub const TICKS_MOST: usize = HEADER.len()
+    + writers::ROW_OF_FIVE * ((texts::LONGEST - Tick::FIRST) / 5);
 
 // A run at the place of its next tick: the machine, and how many ticks it took.
 #[derive(Clone, Copy)]
@@ -58,14 +56,14 @@ impl Run {
 
 // The listing of a good ticks text's ticks on a machine.
 #[derive(Clone, Copy)]
-struct Listing<'a> {
+struct AnsweredTicks<'a> {
     machine: Machine,
     text: &'a [u8],
     count: usize,
     ghost counted: { CountedTicks text.now count },
 }
 
-impl Text for Listing<'_> {
+impl Text for AnsweredTicks<'_> {
     ghost bytes = { λ l. run_text l.machine (ticks_in l.text.now) };
 
     fn put<S: Sink>(&self, sink: &mut S) -> Option<()> {
@@ -83,7 +81,7 @@ impl Text for Listing<'_> {
 
     // Where the longest listing of so many ticks has room, the ticks are not run to measure theirs.
     fn surely_fits(&self, room: usize) -> bool {
-        HEADER.len() <= room && self.count <= (room - HEADER.len()) / ROW
+        HEADER.len() <= room && self.count <= (room - HEADER.len()) / writers::ROW_OF_FIVE
     }
 }
 
@@ -111,7 +109,7 @@ pub fn ticks(unit: UnitTexts, ticks: Option<&[u8]>, out: &mut [u8]) -> Written
         Ok((machine, count)) => {
             // A missing text was refused above, so that the empty one never stands in for it.
             let text = ticks.unwrap_or(&[]);
-            let listing = Listing {
+            let listing = AnsweredTicks {
                 machine,
                 text,
                 count,

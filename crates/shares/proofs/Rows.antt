@@ -1,9 +1,8 @@
 -- Laws of the listing's rows, for the loops over them: those of one task, and those of all.
-use Prim.Native.Nat.{ℕ, ◌+◌, ◌<◌, ◌≤◌}
+use Prim.Native.Nat.{ℕ, suc, ◌+◌, ◌-◌, ◌<◌, ◌≤◌}
 use mathlib.Core.Path.{◌≡◌, refl, sym, ap, ◌∙◌}
 use mathlib.Core.Bool.{true}
 use mathlib.Core.List.{List, [], ◌∷◌, ◌++◌, append_assoc, flatten}
-use native.Mathlib.Numerals.{add-one}
 use native.Mathlib.Omega.{arith}
 use borrow.Author.Tests.{le-leb}
 use lib.ListN.{drop, drop_of_length-le}
@@ -28,47 +27,49 @@ lines-both [] ys = refl
 lines-both (x ∷ xs) ys =
     ap (λ (l : List ℕ). line x ++ l) (lines-both xs ys) ∙ sym (append_assoc (line x) (lines xs) (lines ys))
 
--- of what f gives for 1 to n, from k + 1 on
+-- of what f gives for 1 to n, from k on
 module _ {X : Type 0} (f : ℕ → X) (n k : ℕ) where
-  from_more : (d : X) → k < n → drop k (tabulate n f) ≡ f (k + 1) ∷ drop (k + 1) (tabulate n f)
-  from_more d h =
+  from_more : (d : X) → 1 ≤ k → k ≤ n → drop (k - 1) (tabulate n f) ≡ f k ∷ drop (k + 1 - 1) (tabulate n f)
+  from_more d one h =
       let all = length-tabulate f n in
-      rw (drop-cons (tabulate n f) k d (omega arith), get_d_tabulate f n k d h, add-one)
+      let here : suc (k - 1) ≡ k = omega arith in
+      let next : k + 1 - 1 ≡ suc (k - 1) = omega arith in
+      rw (next, drop-cons (tabulate n f) (k - 1) d (omega arith), get_d_tabulate f n (k - 1) d (omega arith), here) refl
 
-  from_end : n ≤ k → drop k (tabulate n f) ≡ []
+  from_end : n < k → drop (k - 1) (tabulate n f) ≡ []
   from_end h = drop_of_length-le (tabulate n f) (omega (arith, length-tabulate f n))
 
 module _ (t : Table) where
   abbrev task_rows : ℕ → List (List ℕ)
   task_rows k = tabulate t.n (pair_row t k)
 
-  -- the rows of task k, from that of task i + 1 on
+  -- the rows of task k, from that of task i on
   abbrev pub task_from : ℕ → ℕ → List ℕ
-  task_from k i = lines (drop i (task_rows k))
+  task_from k i = lines (drop (i - 1) (task_rows k))
 
-  -- the rows of task k + 1 and on
+  -- the rows of task k and on
   abbrev pub pairs_from : ℕ → List ℕ
-  pairs_from k = lines (flatten (drop k (tabulate t.n task_rows)))
+  pairs_from k = lines (flatten (drop (k - 1) (tabulate t.n task_rows)))
 
-  pub task_more : (k i : ℕ) → i < t.n → task_from k i ≡ line (pair_row t k (i + 1)) ++ task_from k (i + 1)
+  pub task_more : (k i : ℕ) → 1 ≤ i → i ≤ t.n → task_from k i ≡ line (pair_row t k i) ++ task_from k (i + 1)
   unfolding lines
-  task_more k i h = ap lines (from_more (pair_row t k) t.n i [] h)
+  task_more k i one h = ap lines (from_more (pair_row t k) t.n i [] one h)
 
-  pub task_end : (k i : ℕ) → t.n ≤ i → task_from k i ≡ []
+  pub task_end : (k i : ℕ) → t.n < i → task_from k i ≡ []
   unfolding lines
   task_end k i h = ap lines (from_end (pair_row t k) t.n i h)
 
-  pub pairs_more : (k : ℕ) → k < t.n → pairs_from k ≡ task_text t (k + 1) ++ pairs_from (k + 1)
+  pub pairs_more : (k : ℕ) → 1 ≤ k → k ≤ t.n → pairs_from k ≡ task_text t k ++ pairs_from (k + 1)
   unfolding flatten
-  pairs_more k h =
-      ap (λ (x : List (List (List ℕ))). lines (flatten x)) (from_more task_rows t.n k [] h)
-      ∙ lines-both (task_rows (k + 1)) (flatten (drop (k + 1) (tabulate t.n task_rows)))
+  pairs_more k one h =
+      ap (λ (x : List (List (List ℕ))). lines (flatten x)) (from_more task_rows t.n k [] one h)
+      ∙ lines-both (task_rows k) (flatten (drop (k + 1 - 1) (tabulate t.n task_rows)))
 
-  pub pairs_end : (k : ℕ) → t.n ≤ k → pairs_from k ≡ []
+  pub pairs_end : (k : ℕ) → t.n < k → pairs_from k ≡ []
   unfolding flatten lines
   pairs_end k h = ap (λ (x : List (List (List ℕ))). lines (flatten x)) (from_end task_rows t.n k h)
 
-  pub pairs_split : pairs_text t ≡ header ++ pairs_from 0
+  pub pairs_split : pairs_text t ≡ header ++ pairs_from 1
   pairs_split = listing-split (pair_rows t) "task,other,interference,weight,share"
 
   -- from the answer for tasks k and i

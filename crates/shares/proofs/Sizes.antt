@@ -57,7 +57,7 @@ module _ {t : Table} (g : Good t) where
   pairs-most =
       let few = g.sizes.few in
       let pairs : t.n * t.n ≤ most_tasks * most_tasks = mul-le-mul few few in
-      let size = ap length (pairs_split t) ∙ length-append header (pairs_from t 0) in
+      let size = ap length (pairs_split t) ∙ length-append header (pairs_from t 1) in
       omega (arith, rows-most t.n (omega arith))
 
 explained-most : (t : Table) → length t.rows ≡ most_tasks → length (explained t) ≤ explain_most

@@ -16,12 +16,8 @@ use writers::{Sink, Text, Written};
 
 const HEADER: &[u8] = b"task,other,interference,weight,share\r\n";
 
-// The longest row: five numbers of at most 20 digits, commas and CR LF. `runs` says it of its own columns: neither
-// crate stands on the other.
-const ROW: usize = 5 * (20 + 1) + 1;
-
 // The most that the program "explain" writes: it lends so much, and refusal 16 cannot come up.
-pub const EXPLAIN_MOST: usize = HEADER.len() + ROW * (Table::MOST * Table::MOST);
+pub const EXPLAIN_MOST: usize = HEADER.len() + writers::ROW_OF_FIVE * (Table::MOST * Table::MOST);
 
 // The listing of a table that is not refused.
 #[derive(Clone, Copy)]
@@ -46,8 +42,8 @@ impl Pairs<'_> {
         requires { (1 ≤ k) × (k ≤ self.now.table.now.n) }
         ensures { Took S.room S.put sink.old (task_text self.now.table.now k) result sink.new }
     {
-        for i in 0..self.table.n {
-            writers::put_row(&self.row(k, i + 1), sink)?;
+        for i in 1..=self.table.n {
+            writers::put_row(&self.row(k, i), sink)?;
         }
         Some(())
     }
@@ -58,8 +54,8 @@ impl Text for Pairs<'_> {
 
     fn put<S: Sink>(&self, sink: &mut S) -> Option<()> {
         sink.word(HEADER)?;
-        for k in 0..self.table.n {
-            self.put_rows(k + 1, sink)?;
+        for k in 1..=self.table.n {
+            self.put_rows(k, sink)?;
         }
         Some(())
     }

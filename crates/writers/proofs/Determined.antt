@@ -1,6 +1,5 @@
 -- Two results that a writer's statement allows are equal, and so is what they leave in the buffers: whatever the text.
-use Rattle.std.proofs.Common.{◌≡◌, ℕ, Bool, Option, Some, None, List, leb, length, refl, sym, ◌∙◌, subst}
-use Rattle.std.specs.Prelude.{IfNone}
+use Rattle.std.proofs.Common.{◌≡◌, ℕ, Bool, Option, Some, List, leb, length, sym, ◌∙◌}
 use Rattle.maths.proofs.Determined.{determined, determined-both}
 use Rattle.writers.specs.declared.Written.{Written}
 use Rattle.writers.specs.declared.TextsWritten.{TextsWritten}
@@ -18,8 +17,7 @@ wrote_both_determined x y first second r s a b c d p q = (
   determined-both _ _ a b c d (p.holds₁, p.holds₂) (q.holds₁, q.holds₂),
 )
 
--- Of a text that is put somewhere: whether it has room, and what the place becomes where it has. A word that has none
--- leaves the place as it was.
+-- Of a text that is put somewhere: whether it has room, and what the place becomes where it has.
 module _ {S : Type 0} (room : S → ℕ) (put : S → List ℕ → S) (before : S) (text : List ℕ) (r s : Option Unit) (a b : S)
     (p : Took room put before text r a) (q : Took room put before text s b) where
   pub took_determined : (r ≡ s) × (r ≡ Some tt → a ≡ b)
@@ -27,19 +25,6 @@ module _ {S : Type 0} (room : S → ℕ) (put : S → List ℕ → S) (before : 
     determined _ r s p.fits q.fits,
     λ e. p.holds e ∙ sym (q.holds (sym (determined _ r s p.fits q.fits) ∙ e)),
   )
-
-  pub word_determined : IfNone r (a ≡ before) → IfNone s (b ≡ before) → (r ≡ s) × (a ≡ b)
-  word_determined k m =
-      let same = determined _ r s p.fits q.fits in (
-        same,
-        after r p (subst (λ o. Took room put before text o b) (sym same) q) k
-            (subst (λ o. IfNone o (b ≡ before)) (sym same) m),
-      )
-    where
-      after : (o : Option Unit) → Took room put before text o a → Took room put before text o b
-          → IfNone o (a ≡ before) → IfNone o (b ≡ before) → a ≡ b
-      after (Some tt) f g k m = f.holds refl ∙ sym (g.holds refl)
-      after None f g k m = k ∙ sym m
 
 pub added_determined : (buffer : List ℕ) (at : ℕ) (text : List ℕ) (r s : ℕ) (a b : List ℕ)
     → Added buffer at text r a → Added buffer at text s b → (r ≡ s) × (a ≡ b)

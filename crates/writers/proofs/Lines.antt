@@ -1,12 +1,9 @@
 -- Laws of a text's rows, for the loops over them.
-use Rattle.std.proofs.Common.{◌≡◌, ℕ, zero, suc, ◌+◌, ◌<◌, ◌≤◌, List, [], ◌∷◌, ◌++◌, map, min, length, take, ◌⊎◌, inl}
+use Rattle.std.proofs.Common.{◌≡◌, ℕ, zero, suc, ◌+◌, ◌<◌, List, [], ◌∷◌, ◌++◌, map, length, take, ◌⊎◌, inl}
 use Rattle.std.proofs.Common.{inr}
 use Rattle.std.proofs.Common.{refl, ap, sym, ◌∙◌, arith, add-one}
 use Rattle.forms.specs.Forms.{line, lines}
-use lib.ListN.{drop, get_or, drop_of_length-le}
-use lib.Seq.{take_all, drop-cons}
 use lib.IntN.{ℤ}
-use native.Mathlib.Decide.{dec_le}
 use Rattle.forms.specs.Bytes.{bytes}
 use Rattle.writers.specs.Signed.{margin_of, margin_row}
 use Rattle.writers.specs.Outputs.{tick_rows, margin_lines, margins_text}
@@ -45,22 +42,18 @@ ticks_end rs fs (inr e) = ap (λ l. lines (tick_rows rs l)) (none fs e) ∙ eith
     either [] = refl
     either (r ∷ rs) = refl
 
--- as many margins as there are, and n at most
-pub margins-split : (n : ℕ) (zs : List ℤ) (m : ℕ) → m ≡ min (length zs) n
-    → margins_text n zs ≡ bytes "task,margin,pass\r\n" ++ margin_lines 1 (take m zs)
+pub margins-split : (n : ℕ) (zs : List ℤ)
+    → margins_text n zs ≡ bytes "task,margin,pass\r\n" ++ margin_lines 1 (take n zs)
 unfolding margins_text
-margins-split n zs m e = ap (λ l. bytes "task,margin,pass\r\n" ++ margin_lines 1 l) (go (dec_le n (length zs)))
-  where
-    go : Dec (n ≤ length zs) → take n zs ≡ take m zs
-    go (yes l) = let f : n ≡ m = omega arith in ap (λ k. take k zs) f
-    go (no g) = take_all n zs (omega arith) ∙ sym (take_all m zs (omega arith))
+margins-split n zs = refl
 
-module _ (zs : List ℤ) (i : ℕ) where
-  pub margins_more : (d : ℤ) → i < length zs → margin_lines (suc i) (drop i zs)
-      ≡ margin_row (i + 1) (margin_of (get_or zs i d)) ++ margin_lines (suc (i + 1)) (drop (i + 1) zs)
-  unfolding margin_lines
-  margins_more d less = rw (drop-cons zs i d less, add-one) refl
+-- of the first n, from task k + 1 on
+pub margins_more : {zs ys : List ℤ} {z : ℤ} {n i k l : ℕ} (m : ℕ) → zs ≡ z ∷ ys → m + 1 ≡ n → i ≡ k → l ≡ k + 1
+    → margin_lines (suc k) (take n zs) ≡ margin_row (i + 1) (margin_of z) ++ margin_lines (suc l) (take m ys)
+unfolding margin_lines
+margins_more {i = i} m e h at on = rw (e, sym h, on, sym at, add-one m, add-one i) refl
 
-  pub margins_end : length zs ≤ i → margin_lines (suc i) (drop i zs) ≡ []
-  unfolding margin_lines
-  margins_end h = rw (drop_of_length-le zs {i = i} h) refl
+pub margins_end : (zs : List ℤ) (n k : ℕ) → (0 < n → length zs ≡ 0) → margin_lines k (take n zs) ≡ []
+unfolding margin_lines
+margins_end zs zero k h = refl
+margins_end zs (suc n) k h = ap (λ l. margin_lines k (take (suc n) l)) (none zs (h (omega arith)))

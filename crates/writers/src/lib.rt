@@ -8,7 +8,7 @@ ghost use Rattle.forms.specs.Forms.{ending, line};
 ghost use Rattle.table.specs.Limits.{most_tasks};
 ghost use Rattle.table.specs.Refused.{no_refusal};
 ghost use Rattle.writers.specs.Outputs.{task_row, platform_text, tasks_text, reports_text, refused_text, margins_text};
-ghost use Rattle.writers.specs.Code.Places.{room_left, measured, measure_laws, room_behind, written_at, cursor_laws};
+ghost use Rattle.writers.specs.Code.Places.{room_left, measured, measure_laws, room_ahead, written_at, cursor_laws};
 ghost use Rattle.writers.specs.Signed.{margin_of, sign, margin_row};
 ghost use Rattle.writers.specs.Sinks.{SinkLaws, Took};
 ghost use Rattle.writers.specs.Written.{too_short, room_for, Wrote, WroteBoth, Added};
@@ -60,14 +60,14 @@ struct Cursor<'a> {
 }
 
 impl Sink for Cursor<'_> {
-    ghost room = { room_behind };
+    ghost room = { room_ahead };
 
     ghost put = { written_at };
 
     ghost laws = { cursor_laws };
 
     fn word(&mut self, word: &[u8]) -> Option<()>
-        ensures took { Took room_behind written_at self.old word.now result self.new }
+        ensures took { Took room_ahead written_at self.old word.now result self.new }
         ensures kept { IfNone result (self.new ≡ self.old) }
     {
         let at = self.at.min(self.buf.len());
@@ -234,6 +234,9 @@ impl Cell {
     }
 }
 
+// The longest row of five numbers: each of at most 20 digits and a comma, and CR LF behind the last.
+pub const ROW_OF_FIVE: usize = 5 * (Cell::MOST - 1) + 1;
+
 // A number and what ends it, where so many more follow in its row. The cell's bytes are moved only into the sink.
 fn put_cell<S: Sink>(n: u64, left: usize, sink: &mut S) -> Option<()>
     ensures { Took S.room S.put sink.old (digits n ++ ending left) result sink.new }
@@ -391,7 +394,7 @@ impl Text for Margins<'_> {
 
     fn put<S: Sink>(&self, sink: &mut S) -> Option<()> {
         sink.word(b"task,margin,pass\r\n")?;
-        for (i, z) in self.0[..self.0.len().min(Table::MOST)].iter().enumerate() {
+        for (i, z) in self.0.iter().take(Table::MOST).enumerate() {
             // `as`: there is no From of usize.
             Margin::of(*z).put_row(i as u64 + 1, sink)?;
         }
@@ -446,17 +449,14 @@ pub fn write_texts(t: &Table, platform: &mut [u8], tasks: &mut [u8]) -> TextsWri
     ensures { WroteBoth (platform_text t.now.platform) (tasks_text t.now) platform.old tasks.old result
         platform.new tasks.new }
 {
-    let p = t.platform;
-    let first = fits(&p, platform.len());
-    let second = fits(t, tasks.len());
-    if !first || !second {
+    if !fits(&t.platform, platform.len()) || !fits(t, tasks.len()) {
         return TextsWritten {
             refused: Refusal::from(Reason::Room),
             platform: 0,
             tasks: 0,
         };
     }
-    let a = write_fitting(&p, platform);
+    let a = write_fitting(&t.platform, platform);
     let b = write_fitting(t, tasks);
     TextsWritten {
         refused: a.refused,

@@ -14,8 +14,8 @@ room_left m = m.left
 abbrev pub measured : Measure → List ℕ → Measure
 measured m text = record { left = m.left - length text }
 
-abbrev pub room_behind : Cursor → ℕ
-room_behind c = length c.buf.now - c.at
+abbrev pub room_ahead : Cursor → ℕ
+room_ahead c = length c.buf.now - c.at
 
 abbrev pub written_at : Cursor → List ℕ → Cursor
 written_at c text = record {
@@ -39,7 +39,7 @@ sets_append buffer at [] b = let e : at + 0 ≡ at = omega arith in rw e refl
 sets_append buffer at (x ∷ a) b = let e : at + suc (length a) ≡ suc at + length a = omega arith in
     rw e (sets_append (set buffer at x) (suc at) a b)
 
-pub cursor_laws : SinkLaws room_behind written_at
+pub cursor_laws : SinkLaws room_ahead written_at
 cursor_laws = record {
   none = λ c. let e : c.at + 0 ≡ c.at = omega arith in ap (λ n. record c { at = n }) e;
   behind = λ c a b.

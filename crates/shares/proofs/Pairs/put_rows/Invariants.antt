@@ -1,4 +1,4 @@
--- The loop's invariant: the rows of task i + 1 and on are left.
+-- The loop's invariant: the rows of task i and on are left.
 use Rattle.writers.proofs.Walks.{Walk}
 use Rattle.shares.specs.Code.Pairs.{task_text}
 use Rattle.shares.proofs.Rows.{task_from}

@@ -1,4 +1,4 @@
--- The loop's invariant: the rows of task k + 1 and on are left.
+-- The loop's invariant: the rows of task k and on are left.
 use Rattle.writers.proofs.Walks.{Walk}
 use Rattle.shares.specs.Explain.{pairs_text}
 use Rattle.shares.proofs.Rows.{pairs_from}

@@ -1,4 +1,4 @@
-use Rattle.std.proofs.Common.{get_or, pos, refl, rules, take}
+use Rattle.std.proofs.Common.{ap, ◌∙◌, rules}
 use mir.Syntax.{w64}
 use mir.Val.{SFits}
 use mir.Facts.{to_z-of_z}
@@ -9,23 +9,35 @@ use Rattle.writers.proofs.MarginsText.put.Goals as goal
 
 pub returns-in_err-word : goal.returns-in_err-word
 returns-in_err-word g c =
-    walk_halt g.met.S.Sink.laws _ _ (margins-split most_tasks _ _ refl) c.in_err-word.ensures c.from_residual.ensures
+    walk_halt g.met.S.Sink.laws _ _ (margins-split most_tasks _) c.in_err-word.ensures c.from_residual.ensures
 
 pub loop-i-init : goal.loop-i-init
 loop-i-init g c =
-    walk_head g.met.S.Sink.laws _ _ (margins-split most_tasks _ _ c.min.ensures) c.in_ok-word.ensures
+    let is = c.into_iter-i-iterator.ensures.into_iter_gives in
+    let all = c.enumerate-i-items.ensures in
+    let taken = c.take.ensures in
+    let count = ap (λ i. i.count) is ∙ all.count in
+    let n = ap (λ i. i.iter.n) is ∙ ap (λ i. i.n) all.source ∙ taken.count in
+    let rest =
+    ap (λ i. i.iter.iter.rest.now) is ∙ ap (λ i. i.iter.rest.now) all.source
+    ∙ ap (λ i. i.rest.now) taken.source ∙ c.iter.ensures.rest in
+    rw (count, n, rest) (walk_head g.met.S.Sink.laws _ _ (margins-split most_tasks _) c.in_ok-word.ensures)
 
 pub returns-in_err-put_row : goal.returns-in_err-put_row
 returns-in_err-put_row g c =
-    let fits : SFits w64 (get_or (take c.min.result c.args.self.now.0.now) c.loop-i.i (pos 0)) = search rules in
-    walk_stop g.met.S.Sink.laws c.loop-i.invariant _ _ (margins_more _ _ (pos 0) c.loop-i-test.true)
+    let fits : SFits w64 c.in-Some.z.now = search rules in
+    let steps = c.in-Some.ensures.steps in
+    walk_stop g.met.S.Sink.laws c.loop-i.invariant _ _ (margins_more _ steps.0.0 steps.0.1 steps.1 steps.2)
     (rw (c.of.ensures, to_z-of_z fits) at c.in_err-put_row.ensures) c.from_residual-in_err-put_row.ensures
 
 pub loop-i-preserved : goal.loop-i-preserved
 loop-i-preserved g c =
-    let fits : SFits w64 (get_or (take c.min.result c.args.self.now.0.now) c.loop-i.i (pos 0)) = search rules in
-    walk_more g.met.S.Sink.laws c.loop-i.invariant _ _ (margins_more _ _ (pos 0) c.loop-i-test.true)
+    let fits : SFits w64 c.in-Some.z.now = search rules in
+    let steps = c.in-Some.ensures.steps in
+    walk_more g.met.S.Sink.laws c.loop-i.invariant _ _ (margins_more _ steps.0.0 steps.0.1 steps.1 steps.2)
     (rw (c.of.ensures, to_z-of_z fits) at c.in_ok-put_row.ensures)
 
 pub returns : goal.returns
-returns g c = walk_end g.met.S.Sink.laws c.loop-i.invariant (margins_end _ _ c.loop-i-test.false)
+returns g c =
+    walk_end g.met.S.Sink.laws c.loop-i.invariant
+    (margins_end _ _ _ (λ h. (c.in-None.ensures.steps.0 h).0))

@@ -5,7 +5,7 @@ use Rattle.writers.proofs.Walks.{Walk}
 use Rattle.runs.specs.Ticks.{run_text}
 use Rattle.runs.specs.Code.Runs.{ticks_in}
 use Rattle.runs.proofs.Runs.{to_come, Going}
-use Rattle.runs.proofs.ListingText.put.Given as goal
+use Rattle.runs.proofs.AnsweredTicksText.put.Given as goal
 
 abbrev pub invariant-loop : goal.invariant-loop
 invariant-loop g l =

@@ -2,7 +2,7 @@ use Prim.Native.Nat.{◌/◌, ◌-◌, ◌≤◌}
 use native.Mathlib.Omega.{arith}
 use borrow.Author.Tests.{leb-true}
 use Rattle.runs.proofs.Widths.{run-most}
-use Rattle.runs.proofs.ListingText.surely_fits.Goals as goal
+use Rattle.runs.proofs.AnsweredTicksText.surely_fits.Goals as goal
 
 pub returns-then-room : goal.returns-then-room
 returns-then-room c = λ e.

@@ -2,7 +2,7 @@ use native.Mathlib.Omega.{arith}
 use Rattle.writers.proofs.Walks.{walk_head, walk_halt, walk_more, walk_stop, walk_end}
 use Rattle.runs.specs.Code.Runs.{ticks_in}
 use Rattle.runs.proofs.Runs.{run_split, going_start, going_on, going_end}
-use Rattle.runs.proofs.ListingText.put.Goals as goal
+use Rattle.runs.proofs.AnsweredTicksText.put.Goals as goal
 
 pub returns-in_err-word : goal.returns-in_err-word
 returns-in_err-word g c =

@@ -117,7 +117,7 @@ impl Written {
         ensures { result ≡ record { refused = no_refusal; length = length } }
     {
         Written {
-            refused: Refusal { number: 0, row: 0 },
+            refused: Refusal::NONE,
             length,
         }
     }

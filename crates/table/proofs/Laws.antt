@@ -5,11 +5,10 @@ use mathlib.Core.Bool.{false}
 use mathlib.Core.List.{List, [], ◌∷◌}
 use borrow.Author.Tests.{eq-eqb}
 use native.Mathlib.Numerals.{add-one}
-use native.Mathlib.Omega.{arith}
 use lib.Dec.{eqb}
-use lib.ListN.{length, take, drop, get_or, length-take, drop_of_length-le}
+use lib.ListN.{length, drop, get_or, drop_of_length-le}
+use lib.Seq.{drop-cons}
 use Rattle.std.specs.Prelude.{Result, Ok, Err}
-use Rattle.maths.proofs.Lists.{front}
 use Rattle.table.specs.declared.Reason.{Reason}
 use Rattle.table.specs.declared.Reason.TheVariants.{Count, Cores, Partitions, Period, NoRun, Run, Deadline, Need}
 use Rattle.table.specs.declared.Reason.TheVariants.{Task, NotRunning, Overrun, Early, Unfinished, State, Text, Room}
@@ -101,18 +100,18 @@ pub sizes-fail : (t : Table) (r : Reason) → number r ≡ sizes_refusal t → r
 unfolding refusal
 sizes-fail t r e = rw (← e, numbered r) refl
 
-module _ (p n : ℕ) (rows : List Row) (i : ℕ) (lt : i < n) (fits : n ≤ length rows) where
+module _ (p : ℕ) (rows : List Row) (i : ℕ) (lt : i < length rows) where
   pub row-good : 0 ≡ row_refusal p (get_or rows i no_task)
-      → rows_from p (i + 1) (drop i (take n rows)) ≡ rows_from p (i + 1 + 1) (drop (i + 1) (take n rows))
+      → rows_from p (i + 1) (drop i rows) ≡ rows_from p (i + 1 + 1) (drop (i + 1) rows)
   unfolding rows_from
-  row-good h = rw (front no_task n rows i) (simp (eq-eqb _ _ (sym h), add-one))
+  row-good h = rw (drop-cons rows i no_task lt) (simp (eq-eqb _ _ (sym h), add-one))
 
   pub row-bad : (r : Reason) → number r ≡ row_refusal p (get_or rows i no_task)
-      → rows_from p (i + 1) (drop i (take n rows)) ≡ refusal_for r (i + 1)
+      → rows_from p (i + 1) (drop i rows) ≡ refusal_for r (i + 1)
   unfolding rows_from
-  row-bad r e = rw (front no_task n rows i, ← e) (simp (numbered r))
+  row-bad r e = rw (drop-cons rows i no_task lt, ← e) (simp (numbered r))
 
-pub rows_end : (p k n : ℕ) (rows : List Row) → n ≤ length rows
-    → rows_from p k (drop n (take n rows)) ≡ record { number = 0; row = 0 }
+pub rows_end : (p k i : ℕ) (rows : List Row) → length rows ≤ i
+    → rows_from p k (drop i rows) ≡ record { number = 0; row = 0 }
 unfolding rows_from
-rows_end p k n rows h = rw (drop_of_length-le (take n rows) {i = n} (simp length-take (omega arith)))
+rows_end p k i rows h = rw (drop_of_length-le rows {i = i} h) refl

@@ -1,7 +1,7 @@
 // The task table of a unit and its platform, the limits of each, and refusals 1 to 8 of document 01.
 #![tactic(auto)]
 
-ghost use Rattle.std.specs.Prelude.{min, take, ◌≤◌, ◌≡◌};
+ghost use Rattle.std.specs.Prelude.{min, length, take, IfOk, ◌≡◌};
 ghost use Rattle.table.specs.Limits.{most_tasks, most_cores, most_partitions, longest_period};
 ghost use Rattle.table.specs.Refused.{sizes_refusal, row_refusal, rows_refusal, refusal};
 ghost use Rattle.table.specs.Reasons.{number_of, outcome, refusal_for};
@@ -154,7 +154,8 @@ impl Table {
 
     // Tasks 1 to n, as far as they are there.
     pub fn tasks(&self) -> &[Task]
-        ensures { result.now ≡ take self.now.n self.now.rows }
+        ensures are { result.now ≡ take self.now.n self.now.rows }
+        ensures rows { length self.now.rows ≡ most_tasks }
     {
         &self.rows[..Table::entries(self.n)]
     }
@@ -179,21 +180,22 @@ impl Table {
 
     // The first of refusals 4 to 8, row by row.
     fn check_rows(&self) -> Result<(), Refusal>
-        requires { self.now.n ≤ most_tasks }
-        ensures { result ≡ outcome (rows_refusal self.now) }
+        ensures answer { result ≡ outcome (rows_refusal self.now) }
+        ensures rows { length self.now.rows ≡ most_tasks }
     {
         let p = self.platform.partitions;
-        for i in 0..self.n {
-            if let Err(reason) = self.rows[i].check(p) {
+        for (i, task) in self.tasks().iter().enumerate() {
+            if let Err(reason) = task.check(p) {
                 return Err(Refusal::new(reason, i + 1));
             }
         }
         Ok(())
     }
 
-    // The first of refusals 1 to 8.
+    // The first of refusals 1 to 8. A table that passes has the rows that the type says, which the callers' proofs use.
     pub fn check(&self) -> Result<(), Refusal>
-        ensures { result ≡ outcome (refusal self.now) }
+        ensures answer { result ≡ outcome (refusal self.now) }
+        ensures rows { IfOk result (λ _. length self.now.rows ≡ most_tasks) }
     {
         self.check_sizes()?;
         self.check_rows()

@@ -9,4 +9,4 @@ use Rattle.admission.proofs.checked.Goals as goal
 pub returns : goal.returns
 returns c =
     let rows_32 : length c.args.t.now.rows ≡ most_tasks = search (len_mapped, rules) in
-    rw c.check.ensures (checked-is c.args.t.now rows_32)
+    rw c.check.ensures.answer (checked-is c.args.t.now rows_32)

@@ -3,10 +3,10 @@ ghost use Rattle.std.specs.Prelude.{◌≡◌};
 ghost use Rattle.table.specs.Refused.{refusal};
 ghost use Rattle.table.specs.Reasons.{outcome};
 ghost use Rattle.machine.specs.Jobs.{is_idle, is_waiting, is_running, no_job};
-ghost use Rattle.machine.specs.Fresh.{trimmed, fresh, set_up};
+ghost use Rattle.machine.specs.Fresh.{fresh, set_up};
 
 use crate::{Job, Machine, Stage};
-use table::{Refusal, Table, Task};
+use table::{Refusal, Table};
 
 impl Stage {
     pub const IDLE: Stage = Stage(0);
@@ -47,25 +47,15 @@ impl Job {
     }
 }
 
-// The rows of tasks 1 to n, and zero past n.
-fn trimmed_rows(t: &Table) -> [Task; Table::MOST]
-    ensures { result ≡ (trimmed t.now).rows }
-{
-    let kept = Table::entries(t.n);
-    let mut rows = [Task::none(); Table::MOST];
-    rows[..kept].copy_from_slice(&t.rows[..kept]);
-    rows
-}
-
 // Tasks 1 to n idle with age T, and zero past n.
 fn fresh_jobs(t: &Table) -> [Job; Table::MOST]
     ensures { result ≡ (fresh t.now).jobs }
 {
     let none = Job::none();
     let mut jobs = [none; Table::MOST];
-    for i in 0..Table::entries(t.n) {
+    for (i, task) in t.tasks().iter().enumerate() {
         jobs[i] = Job {
-            age: t.rows[i].t,
+            age: task.t,
             ..none
         };
     }
@@ -73,14 +63,14 @@ fn fresh_jobs(t: &Table) -> [Job; Table::MOST]
 }
 
 impl Machine {
+    // Its n is the table's own, above 32 too.
     pub fn fresh(t: &Table) -> Machine
         ensures { result ≡ fresh t.now }
     {
         Machine {
             table: Table {
-                platform: t.platform,
                 n: t.n,
-                rows: trimmed_rows(t),
+                ..Table::of(t.platform, t.tasks())
             },
             jobs: fresh_jobs(t),
         }

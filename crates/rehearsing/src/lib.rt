@@ -42,8 +42,6 @@ fn tried(t: &Table) -> Result<Rehearsal, Refusal>
     ensures { result ≡ answered (bench_refusal t.now) (rehearsed t.now) }
 {
     t.check()?;
-    // That the rows are as many as the type says is known of a lent table once one of them is read.
-    let _first = &t.rows[0];
     let l = multiple(t).ok_or(Reason::Multiple)?;
     Ok(run(t, l))
 }

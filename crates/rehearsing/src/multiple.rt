@@ -16,8 +16,8 @@ pub(crate) fn multiple(t: &Table) -> Option<u32>
     ensures { result ≡ then_some (leb (multiple t.now) most_multiple) (multiple t.now) }
 {
     let mut so_far: u32 = 1;
-    for i in 0..t.n {
-        so_far = lcm_within(so_far, t.rows[i].t, MOST)?;
+    for task in t.tasks() {
+        so_far = lcm_within(so_far, task.t, MOST)?;
     }
     Some(so_far)
 }

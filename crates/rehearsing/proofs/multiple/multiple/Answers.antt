@@ -1,16 +1,20 @@
 use Prim.Native.Nat.{ℕ, suc, ◌+◌, ◌<◌, ◌≤◌}
-use mathlib.Core.Path.{◌≡◌, sym, ◌∙◌}
+use mathlib.Core.Path.{◌≡◌, refl, sym, ◌∙◌}
 use native.Mathlib.Numerals.{add-one}
 use native.Mathlib.Omega.{arith}
 use borrow.Author.Rules.{rules}
+use borrow.Author.Tests.{le-leb}
 use lib.Dec.{leb}
+use lib.ListN.{length, take, get_or}
+use mathlib.Core.List.{List}
 use Rattle.std.specs.Bool.{then_some}
 use Rattle.std.specs.Prelude.{Some, None}
+use Rattle.table.specs.declared.Task.{Task}
 use Rattle.table.specs.declared.Table.{Table}
 use Rattle.table.specs.Good.{Good}
-use Rattle.table.specs.Limits.{most_tasks}
-use Rattle.table.specs.Tasks.{τ, T}
+use Rattle.table.specs.Tasks.{no_task, τ, T}
 use Rattle.table.proofs.Good.{good_of}
+use Rattle.table.proofs.Rows.{tasks-many, task-at}
 use Rattle.multiples.specs.Gcd.{lcm}
 use Rattle.multiples.proofs.Within.{is-above, was-within, was-above}
 use Rattle.rehearsal.specs.Bench.{Unrefused}
@@ -43,24 +47,38 @@ module _ {t : Table} (u : Unrefused t) where
   good : Good t
   good = good_of t u.whole u.unrefused
 
-  in_range : (i : ℕ) → i < t.n → i < most_tasks
-  in_range i l = omega (arith, good.sizes.few)
+-- task i + 1 of those that are lent
+module _ {t : Table} (u : Unrefused t) (tasks : List Task) (are : tasks ≡ take t.n t.rows) where
+  lent : length tasks ≡ t.n
+  lent = tasks-many t tasks are u.whole ∙ omega (arith, (good u).sizes.few)
 
-pub loop-i-init : goal.loop-i-init
-loop-i-init c = (sym (multiple_to-zero c.args.t.now), search rules)
+  there : (i : ℕ) → i < length tasks → get_or tasks i no_task ≡ get_or t.rows i no_task
+  there i l = task-at t tasks are u.whole i l
 
-pub bounds-t-i : goal.bounds-t-i
-bounds-t-i c = in_range c.requires c.loop-i.i (search rules)
-
-pub offset_bounds-t-i : goal.offset_bounds-t-i
-offset_bounds-t-i c = omega (arith, in_range c.requires c.loop-i.i (search rules))
+pub loop-task-init : goal.loop-task-init
+loop-task-init c = (sym (multiple_to-zero c.args.t.now), search rules)
 
 pub returns-in_err-so_far : goal.returns-in_err-so_far
 returns-in_err-so_far c =
-    let l = c.loop-i in
-    c.from_residual.ensures
-    ∙ sym (stops c.args.t.now l.i l.invariant.0 (good c.requires) (search rules) (sym c.in_err-so_far.ensures))
+    let t = c.args.t.now in
+    let l = c.loop-task in
+    let are = c.tasks-task-items.ensures.are in
+    let less : l.task-index < t.n = omega (arith, c.loop-task-test.true, lent c.requires _ are) in
+    let none = rw (there c.requires _ are l.task-index c.loop-task-test.true) at c.in_err-so_far.ensures in
+    c.from_residual.ensures ∙ sym (stops t l.task-index l.invariant.0 (good c.requires) less (sym none))
 
-pub loop-i-preserved : goal.loop-i-preserved
-loop-i-preserved c =
-    goes_on_lem c.args.t.now c.loop-i.i c.loop-i.invariant.0 _ (sym c.in_ok-so_far.ensures)
+pub loop-task-preserved : goal.loop-task-preserved
+loop-task-preserved c =
+    let l = c.loop-task in
+    let are = c.tasks-task-items.ensures.are in
+    let some = rw (there c.requires _ are l.task-index c.loop-task-test.true) at c.in_ok-so_far.ensures in
+    goes_on_lem c.args.t.now l.task-index l.invariant.0 _ (sym some)
+
+pub returns : goal.returns
+returns c =
+    let t = c.args.t.now in
+    let l = c.loop-task in
+    let are = c.tasks-task-items.ensures.are in
+    let at-end : l.task-index ≡ t.n = omega (arith, c.loop-task-test.false, lent c.requires _ are) in
+    let all : l.so_far ≡ multiple t = rw (l.invariant.0, at-end) refl in
+    rw (← all, le-leb l.so_far most_multiple l.invariant.1) refl

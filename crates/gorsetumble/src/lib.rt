@@ -15,41 +15,23 @@ use machine::{Answer, Machine};
 use rehearsal::Rehearsal;
 use table::{Platform, Refusal, Table, Task};
 
-// What C's records have for no refusal.
-const NO_REFUSAL: Refusal = Refusal { number: 0, row: 0 };
-
-// The table of a lent row of task records: their whole count, and the first of them as far as a table goes.
-fn table_of(platform: Platform, rows: &[Task]) -> Table
-    ensures { result ≡ table_of platform rows.now }
-{
-    let n = rows.len();
-    let kept = Table::entries(n);
-    let mut first = [Task::none(); Table::MOST];
-    first[..kept].copy_from_slice(&rows[..kept]);
-    Table {
-        platform,
-        n,
-        rows: first,
-    }
-}
-
 pub fn gorsetumble_full(platform: Platform, rows: &[Task]) -> FullAnswer
     ensures { result ≡ full_answer (table_of platform rows.now) }
 {
-    admission::full_answer(&table_of(platform, rows))
+    admission::full_answer(&Table::of(platform, rows))
 }
 
 pub fn gorsetumble_quick(platform: Platform, rows: &[Task]) -> QuickAnswer
     ensures { result ≡ quick_answer (table_of platform rows.now) }
 {
-    admission::quick_answer(&table_of(platform, rows))
+    admission::quick_answer(&Table::of(platform, rows))
 }
 
 // The rows rehearsed on the bench.
 pub fn gorsetumble_rehearse(platform: Platform, rows: &[Task]) -> Rehearsal
     ensures { result ≡ rehearsed (table_of platform rows.now) }
 {
-    rehearsing::rehearse(&table_of(platform, rows))
+    rehearsing::rehearse(&Table::of(platform, rows))
 }
 
 // A fresh machine of the rows in the place of the old one, which stays where they are refused.
@@ -57,9 +39,9 @@ pub fn gorsetumble_set_up(m: &mut Machine, platform: Platform, rows: &[Task]) ->
     ensures { (result ≡ (set_up m.old (table_of platform rows.now)).refused)
         × (m.new ≡ (set_up m.old (table_of platform rows.now)).machine) }
 {
-    m.set_up(&table_of(platform, rows))
+    m.set_up(&Table::of(platform, rows))
         .err()
-        .unwrap_or(NO_REFUSAL)
+        .unwrap_or(Refusal::NONE)
 }
 
 // One tick of the machine, in its place.

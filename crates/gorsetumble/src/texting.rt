@@ -11,7 +11,6 @@ ghost use Rattle.writers.specs.Written.{Wrote, WroteBoth};
 ghost use Rattle.gorsetumble.specs.FromTexts.{set_up_texts};
 ghost use Rattle.gorsetumble.specs.Code.TextsRead.{judged, texts_read, renewed, told_of};
 
-use crate::NO_REFUSAL;
 use machine::Machine;
 use table::{Platform, Refusal, Table};
 use texts::UnitTexts;
@@ -79,7 +78,7 @@ pub fn gorsetumble_set_up_texts(m: &mut Machine, platform: &[u8], tasks: &[u8]) 
 {
     match set_up(m, platform, tasks) {
         Ok(()) => TextRefusal {
-            refused: NO_REFUSAL,
+            refused: Refusal::NONE,
             text: 0,
         },
         Err(failure) => failure.into(),

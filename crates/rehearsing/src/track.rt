@@ -112,7 +112,7 @@ impl Track {
     {
         let (tick, task) = late.unwrap_or((0, 0));
         Rehearsal {
-            refused: Refusal { number: 0, row: 0 },
+            refused: Refusal::NONE,
             tick,
             task,
             started: self.starts(),

@@ -107,7 +107,7 @@ pub fn tick(m: &mut Machine, released: u32, finished: u32) -> Answer
             let walk = move_jobs(m, report, busy);
             // C's record has number 0 for no refusal.
             Answer {
-                refused: Refusal { number: 0, row: 0 },
+                refused: Refusal::NONE,
                 finished,
                 late: walk.late,
                 started: walk.started,

@@ -7,6 +7,6 @@ pub returns : goal.returns
 unfolding set_up
 returns c =
     let t = table_of c.args.platform c.args.rows.now in (
-      rw (c.unwrap_or.ensures, c.err.ensures.value, c.set_up.ensures.answer, c.table_of.ensures) (refusal_in t),
-      rw (c.set_up.ensures.machine, c.table_of.ensures),
+      rw (c.unwrap_or.ensures, c.err.ensures.value, c.set_up.ensures.answer, c.of.ensures) (refusal_in t),
+      rw (c.set_up.ensures.machine, c.of.ensures),
     )

@@ -51,7 +51,7 @@ pub fn below(p: Partitions) -> u64
 pub fn without(x: u64, y: u64) -> u64
     ensures { result ≡ without x y }
 {
-    x - (x & y)
+    x & !y
 }
 
 // The set without its lowest member.

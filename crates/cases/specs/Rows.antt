@@ -23,7 +23,7 @@ use Rattle.machine.specs.Fresh.{fresh}
 use Rattle.rehearsal.specs.declared.Rehearsal.{Rehearsal}
 use Rattle.rehearsal.specs.Multiple.{multiple}
 use Rattle.rehearsal.specs.Rehearsal.{bench_refusal, rehearsed}
-use Rattle.readers.specs.declared.Tick.{Tick}
+use Rattle.machine.specs.declared.Report.{Report}
 use Rattle.readers.specs.Inputs.{no_platform}
 use Rattle.texts.specs.Given.{given, told}
 use Rattle.texts.specs.Admit.{admit_text}
@@ -42,7 +42,7 @@ pub record Files : Type 0 where
   pub tasks : List String
 
 -- the two sets that a tick brings
-abbrev pub brings : ℕ → ℕ → Tick
+abbrev pub brings : ℕ → ℕ → Report
 brings released finished = record { released = released; finished = finished }
 
 pub data Asked : Type 0 where
@@ -61,9 +61,9 @@ pub data Asked : Type 0 where
   -- load, and load over M × B, of M, B and the tasks' partitions and interference
   load2 : (m b : ℕ) → (a x : List ℕ) → Asked
   -- of each tick on a fresh machine the refusal, number and task, and the sets finished, late and started
-  ticked : Files → List Tick → Asked
+  ticked : Files → List Report → Asked
   -- the partitions that task k holds after the ticks
-  holds : Files → List Tick → ℕ → Asked
+  holds : Files → List Report → ℕ → Asked
   -- number and row of the refusal of the two texts or of their table; for 15 the offset
   refusal_of : Files → Asked
   -- of a rehearsal the refusal, number and row; the tick and its lowest late task; the jobs that each task started
@@ -96,11 +96,11 @@ ticked_row r =
     pos r.answer.refused.number ∷ pos r.answer.refused.row ∷ pos r.answer.finished ∷
     pos r.answer.late ∷ pos r.answer.started ∷ []
 
-unfoldable pub ticked_rows : Machine → List Tick → List (List ℤ)
+unfoldable pub ticked_rows : Machine → List Report → List (List ℤ)
 ticked_rows m [] = []
 ticked_rows m (x ∷ xs) = ticked_row (tick_with m x) ∷ ticked_rows (tick_with m x).machine xs
 
-unfoldable pub after : Machine → List Tick → Machine
+unfoldable pub after : Machine → List Report → Machine
 after m [] = m
 after m (x ∷ xs) = after (tick_with m x).machine xs
 

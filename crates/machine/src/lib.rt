@@ -2,6 +2,8 @@
 #![tactic(auto)]
 
 ghost use Rattle.std.specs.Prelude.{◌≡◌};
+ghost use Rattle.std.specs.Int.Bits.{bit_or};
+ghost use Rattle.sets.specs.TaskSets.{has_task};
 ghost use Rattle.machine.specs.Steps.{fits_in};
 
 mod state;
@@ -29,6 +31,34 @@ pub struct Job {
 pub struct Machine {
     pub table: Table,
     pub jobs: [Job; Table::MOST],
+}
+
+// What a tick is brought, by a caller or a row of a ticks text: the tasks that are released and those that finished.
+#[derive(Clone, Copy)]
+pub struct Report {
+    pub released: u32,
+    pub finished: u32,
+}
+
+impl Report {
+    pub fn releases(self, k: usize) -> bool
+        ensures { result ≡ has_task self.released k }
+    {
+        sets::has_task(self.released, k)
+    }
+
+    pub fn finishes(self, k: usize) -> bool
+        ensures { result ≡ has_task self.finished k }
+    {
+        sets::has_task(self.finished, k)
+    }
+
+    // One of the sets names task k.
+    pub fn names(self, k: usize) -> bool
+        ensures { result ≡ has_task (bit_or self.released self.finished) k }
+    {
+        sets::has_task(self.released | self.finished, k)
+    }
 }
 
 // What a tick answers: three sets of tasks, or the refusal; both in one record, since C gets it.

@@ -10,7 +10,8 @@ use Rattle.table.specs.declared.Table.{Table}
 use Rattle.forms.specs.Forms.{platform_form, tasks_form, ticks_form}
 use Rattle.forms.specs.Reads.{refused}
 use Rattle.forms.specs.Reader.{read}
-use Rattle.readers.specs.declared.TickRead.{TickRead}
+use Rattle.readers.specs.declared.Piece.{Piece}
+use Rattle.machine.specs.declared.Report.{Report}
 use Rattle.readers.specs.Inputs.{no_platform, platform_read, table_read, ticks_read, tick_at}
 
 module _ (text : List ℕ) where
@@ -26,7 +27,7 @@ module _ (text : List ℕ) where
       → s ≡ ticks_read (read ticks_form text) → r ≡ s
   read-ticks-determined = determined (ticks_read (read ticks_form text))
 
-  pub tick-at-determined : (at : ℕ) (r s : TickRead) → r ≡ tick_at text at → s ≡ tick_at text at → r ≡ s
+  pub tick-at-determined : (at : ℕ) (r s : Piece Report) → r ≡ tick_at text at → s ≡ tick_at text at → r ≡ s
   tick-at-determined at = determined (tick_at text at)
 
 -- of a text that is refused at an offset

@@ -66,12 +66,12 @@ ticks-end text at rows e h =
 
 module _ (text : List ℕ) (at : ℕ) where
   pub tick-there : (x : Piece (List ℕ)) → Ok x ≡ row_at text at ticks_form
-      → tick_at text at ≡ record { tick = tick_of x.value; next = x.next }
+      → tick_at text at ≡ record { value = tick_of x.value; next = x.next }
   unfolding tick_at
   tick-there x e = rw (tick_at, ← e) refl
 
   pub tick-not : (offset : Offset) → Err offset ≡ row_at text at ticks_form
-      → tick_at text at ≡ record { tick = record { released = 0; finished = 0 }; next = offset.0 }
+      → tick_at text at ≡ record { value = record { released = 0; finished = 0 }; next = offset.0 }
   unfolding tick_at
   tick-not offset e = rw (tick_at, ← e) refl
 
@@ -79,7 +79,7 @@ pub record TickOn (text : List ℕ) (at : ℕ) (rows : List (List ℕ)) : Type 0
   pub row : List ℕ
   pub more : List (List ℕ)
   pub rows_are : rows ≡ row ∷ more
-  pub tick : (tick_at text at).tick ≡ tick_of row
+  pub tick : (tick_at text at).value ≡ tick_of row
   pub far : at < (tick_at text at).next
   pub inside : (tick_at text at).next ≤ length text
   pub rest : Rest text (tick_at text at).next more

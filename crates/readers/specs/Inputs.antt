@@ -8,8 +8,8 @@ use Rattle.table.specs.declared.Refusal.{Refusal}
 use Rattle.table.specs.Tasks.{table_of}
 use Rattle.forms.specs.Forms.{ticks_form, crlf}
 use Rattle.forms.specs.Reads.{Answer, found, refused}
-use Rattle.readers.specs.declared.Tick.{Tick}
-use Rattle.readers.specs.declared.TickRead.{TickRead}
+use Rattle.machine.specs.declared.Report.{Report}
+use Rattle.readers.specs.declared.Piece.{Piece}
 use Rattle.readers.specs.Places.{row_at}
 
 abbrev pub bad_text : ℕ → Refusal
@@ -37,7 +37,7 @@ abbrev pub table_read : Platform → Answer (List (List ℕ)) → Result Table R
 table_read platform (found rows) = Ok (table_of platform (map task_of rows))
 table_read platform (refused offset) = Err (bad_text offset)
 
-abbrev pub tick_of : List ℕ → Tick
+abbrev pub tick_of : List ℕ → Report
 tick_of row = record { released = get_or row 0 0; finished = get_or row 1 0 }
 
 -- the ticks are read one by one from the place behind the header
@@ -49,9 +49,9 @@ abbrev pub first_tick : ℕ
 first_tick = length (ticks_form.header ++ crlf)
 
 -- where no row is, both sets are empty
-unfoldable pub tick_at : List ℕ → ℕ → TickRead
+unfoldable pub tick_at : List ℕ → ℕ → Piece Report
 tick_at text at =
     elim (row_at text at ticks_form) [
-      | Ok row ↦ record { tick = tick_of row.value; next = row.next }
-      | Err offset ↦ record { tick = tick_of []; next = offset.0 }
+      | Ok row ↦ record { value = tick_of row.value; next = row.next }
+      | Err offset ↦ record { value = tick_of []; next = offset.0 }
     ]

@@ -9,17 +9,18 @@ ghost use Rattle.readers.specs.Inputs.{tick_of, ticks_read, tick_at};
 ghost use Rattle.readers.specs.Places.{word_at, number_at, cell_at, row_from};
 ghost use Rattle.readers.specs.Code.Digits.{grown_to, Narrow};
 
+use machine::Report;
 use table::{Cores, Partitions, Platform, Reason, Refusal, Table, Task};
 
 // Where the first byte is that may not stand there.
 #[derive(Clone, Copy)]
 struct Offset(usize);
 
-// What a piece of a text says, a number or a row of them, and the place behind it.
+// What a piece of a text says, a number, a row of them or a tick, and the place behind it.
 #[derive(Clone, Copy)]
-struct Piece<T> {
-    value: T,
-    next: usize,
+pub struct Piece<T> {
+    pub value: T,
+    pub next: usize,
 }
 
 // The largest number of a column of 32 bits.
@@ -61,7 +62,8 @@ fn with_digit(most: u64, v: u64, c: u8) -> Option<u64>
 }
 
 // Whether 10 v + d is at most the largest, asked so that nothing passes 64 bits. Most digits are told by the quotient,
-// the same for each.
+// the same for each: `checked_mul` and `checked_add` were tried, and the readers took up to 15 per cent more
+// instructions, where 10 may be spent (set-up from the longest text 0.78 times plain C, not 0.67; docs/SPEED.md).
 fn has_room(most: u64, v: u64, d: u64) -> bool
     requires { d < 10 }
     ensures { result ≡ leb (10 * v + d) most }
@@ -102,6 +104,16 @@ fn number_at(s: &[u8], at: usize, most: u64) -> Option<Piece<u64>>
     })
 }
 
+// What ends a number where so many more follow in its row.
+fn ending(left: usize) -> &'static [u8]
+    ensures { result.now ≡ ending left }
+{
+    if left == 0 {
+        return b"\r\n";
+    }
+    b","
+}
+
 // The number of a column at a place, and what ends it where so many more follow in its row.
 fn cell_at(s: &[u8], at: usize, most: u64, left: usize) -> Result<Piece<u64>, Offset>
     ensures { result ≡ cell_at most s.now at (ending left) }
@@ -109,14 +121,9 @@ fn cell_at(s: &[u8], at: usize, most: u64, left: usize) -> Result<Piece<u64>, Of
     let Some(x) = number_at(s, at, most) else {
         return Err(Offset(at));
     };
-    let next = if left == 0 {
-        word_at(s, x.next, b"\r\n")?
-    } else {
-        word_at(s, x.next, b",")?
-    };
     Ok(Piece {
         value: x.value,
-        next,
+        next: word_at(s, x.next, ending(left))?,
     })
 }
 
@@ -141,15 +148,25 @@ fn row_at<const N: usize>(
     })
 }
 
-// Numbers of 32 bits, which `as` is proved to keep; TryFrom would have an Err that never comes. So also below.
-fn platform_of(numbers: [u64; 2]) -> Platform
+// Numbers of 32 bits, which `as` is proved to keep; TryFrom would have an Err that never comes.
+fn narrow<const N: usize>(numbers: [u64; N]) -> [u32; N]
     requires { Narrow numbers }
+    ensures { result ≡ numbers.entry }
+{
+    let mut narrowed = [0; N];
+    for i in 0..N {
+        narrowed[i] = numbers[i] as u32;
+    }
+    narrowed
+}
+
+fn platform_of(numbers: [u32; 2]) -> Platform
     ensures { result ≡ platform_of numbers }
 {
     let [cores, partitions] = numbers;
     Platform {
-        cores: Cores(cores as u32),
-        partitions: Partitions(partitions as u32),
+        cores: Cores(cores),
+        partitions: Partitions(partitions),
     }
 }
 
@@ -162,19 +179,18 @@ pub fn read_platform(s: &[u8]) -> Result<Platform, Refusal>
     if row.next < s.len() {
         return Err(Refusal::from(Offset(row.next)));
     }
-    Ok(platform_of(row.value))
+    Ok(platform_of(narrow(row.value)))
 }
 
-fn task_of(numbers: [u64; 4]) -> Task
-    requires { Narrow numbers }
+fn task_of(numbers: [u32; 4]) -> Task
     ensures { result ≡ task_of numbers }
 {
     let [d, t, c, a] = numbers;
     Task {
-        d: d as u32,
-        t: t as u32,
-        c: c as u32,
-        a: Partitions(a as u32),
+        d,
+        t,
+        c,
+        a: Partitions(a),
     }
 }
 
@@ -188,7 +204,7 @@ pub fn read_tasks(s: &[u8], platform: Platform) -> Result<Table, Refusal>
     while at < s.len() {
         let row = row_at(s, at, &[LARGEST; 4])?;
         if table.n < Table::MOST {
-            table.rows[table.n] = task_of(row.value);
+            table.rows[table.n] = task_of(narrow(row.value));
         }
         table.n += 1;
         at = row.next;
@@ -196,40 +212,24 @@ pub fn read_tasks(s: &[u8], platform: Platform) -> Result<Table, Refusal>
     Ok(table)
 }
 
-// One row of a ticks text: the sets of tasks released and finished.
-#[derive(Clone, Copy)]
-pub struct Tick {
-    pub released: u32,
-    pub finished: u32,
-}
+const TICKS_HEADER: &[u8] = b"released,finished\r\n";
 
-#[derive(Clone, Copy)]
-pub struct TickRead {
-    pub tick: Tick,
-    pub next: usize,
-}
+// The place of the first tick of a ticks text, behind the header.
+pub const FIRST_TICK: usize = TICKS_HEADER.len();
 
-impl Tick {
-    // The place of the first tick of a ticks text, behind the header.
-    pub const FIRST: usize = 19;
-}
-
-fn tick_of(numbers: [u64; 2]) -> Tick
-    requires { Narrow numbers }
+// What a row of a ticks text says.
+fn tick_of(numbers: [u32; 2]) -> Report
     ensures { result ≡ tick_of numbers }
 {
     let [released, finished] = numbers;
-    Tick {
-        released: released as u32,
-        finished: finished as u32,
-    }
+    Report { released, finished }
 }
 
 // How many ticks a ticks text has, or refusal 15.
 pub fn read_ticks(s: &[u8]) -> Result<usize, Refusal>
     ensures { result ≡ ticks_read (read ticks_form s.now) }
 {
-    let mut at = word_at(s, 0, b"released,finished\r\n")?;
+    let mut at = word_at(s, 0, TICKS_HEADER)?;
     let mut n: usize = 0;
     // No `for`: a step is as long as the row that it reads.
     while at < s.len() {
@@ -239,18 +239,18 @@ pub fn read_ticks(s: &[u8]) -> Result<usize, Refusal>
     Ok(n)
 }
 
-// The tick at a place, and the place behind it; of a text that read_ticks accepts, from Tick::FIRST on. No Result: it
+// The tick at a place, and the place behind it; of a text that read_ticks accepts, from FIRST_TICK on. No Result: it
 // could not fail, and where no tick stands it answers two empty sets.
-pub fn tick_at(s: &[u8], at: usize) -> TickRead
+pub fn tick_at(s: &[u8], at: usize) -> Piece<Report>
     ensures { result ≡ tick_at s.now at }
 {
     match row_at(s, at, &[LARGEST; 2]) {
-        Ok(row) => TickRead {
-            tick: tick_of(row.value),
+        Ok(row) => Piece {
+            value: tick_of(narrow(row.value)),
             next: row.next,
         },
-        Err(Offset(next)) => TickRead {
-            tick: tick_of([0, 0]),
+        Err(Offset(next)) => Piece {
+            value: tick_of([0, 0]),
             next,
         },
     }

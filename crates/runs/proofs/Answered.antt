@@ -24,7 +24,7 @@ use Rattle.machine.specs.Tick.{Ticked, tick_rules, first_given, tick_refusal, re
 use Rattle.machine.specs.Tick.{accepted, accepted_tick, refused_tick, tick}
 use Rattle.machine.proofs.Jobs.{finished-table, readied-table}
 use Rattle.machine.proofs.Queue.{step-table}
-use Rattle.readers.specs.declared.Tick.{Tick}
+use Rattle.machine.specs.declared.Report.{Report}
 use Rattle.writers.proofs.Listings.{big}
 use Rattle.runs.specs.Ticks.{tick_with}
 
@@ -87,7 +87,7 @@ good-few : (m : Machine) → good_state m ≡ true → m.table.n ≤ most_tasks
 unfolding good_state
 good-few m e = few-tasks m.table (eqb-true _ 0 (both _ _ (both _ _ (both _ _ (both _ _ e).0).0).0).0)
 
-pub tick-small : (m : Machine) (k : Tick) → k.finished < big → Small (tick_with m k)
+pub tick-small : (m : Machine) (k : Report) → k.finished < big → Small (tick_with m k)
 unfolding tick
 tick-small m k h = by (accepted m k.released k.finished) refl
   where

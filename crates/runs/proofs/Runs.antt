@@ -13,7 +13,7 @@ use Rattle.forms.specs.Bytes.{bytes}
 use Rattle.forms.specs.Forms.{crlf, line, lines}
 use Rattle.table.specs.declared.Refusal.{Refusal}
 use Rattle.machine.specs.declared.Machine.{Machine}
-use Rattle.readers.specs.declared.Tick.{Tick}
+use Rattle.machine.specs.declared.Report.{Report}
 use Rattle.readers.specs.Inputs.{tick_at, first_tick}
 use Rattle.readers.proofs.Ticks.{Rest, ticks-start, ticks-next, ticks-end}
 use Rattle.writers.specs.Outputs.{listing}
@@ -93,7 +93,7 @@ module _ (text : List ℕ) (count : ℕ) where
         let all = g.all in
         let few = g.few in
         let size : length rows ≡ suc (length n.more) = ap length n.rows_are in
-        let by : Tick → List ℕ = λ k.
+        let by : Report → List ℕ = λ k.
         line (run_row r.taken (tick_with r.machine k)) ++ lines (run_rows (counted r.taken
         (tick_with r.machine k).answer.refused) (tick_with r.machine k).machine n.more) in
         rw (e, f) (record {
@@ -101,7 +101,7 @@ module _ (text : List ℕ) (count : ℕ) where
           going = record {
             rest = n.rest;
             all = omega arith;
-            few = omega (arith, counted-most r.taken (tick_with r.machine (tick_at text r.at).tick).answer.refused);
+            few = omega (arith, counted-most r.taken (tick_with r.machine (tick_at text r.at).value).answer.refused);
           };
           comes = ap (to_come r) n.rows_are ∙ ap by (sym n.tick);
         })

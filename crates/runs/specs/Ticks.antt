@@ -10,12 +10,12 @@ use Rattle.table.specs.Refused.{refusal, unrefused}
 use Rattle.machine.specs.declared.Machine.{Machine}
 use Rattle.machine.specs.Fresh.{fresh}
 use Rattle.machine.specs.Tick.{Ticked, tick}
-use Rattle.readers.specs.declared.Tick.{Tick}
+use Rattle.machine.specs.declared.Report.{Report}
 use Rattle.readers.specs.Inputs.{bad_text, tick_of, first_tick}
 use Rattle.writers.specs.Outputs.{listing, refused_text}
 use Rattle.texts.specs.Given.{listed, longest, taken}
 
-abbrev pub tick_with : Machine → Tick → Ticked
+abbrev pub tick_with : Machine → Report → Ticked
 tick_with m report = tick m report.released report.finished
 
 -- ticks taken before the row, refusal number or 0, and the three sets

@@ -11,7 +11,6 @@ ghost use Rattle.runs.specs.Ticks.{run_text, listing_most, ticks_text};
 ghost use Rattle.runs.specs.Code.Runs.{ticks_in, CountedTicks, run_on, line_on, judged};
 
 use machine::Machine;
-use readers::Tick;
 use table::{Refusal, Table};
 use texts::UnitTexts;
 use writers::{Sink, Text, Written};
@@ -21,7 +20,7 @@ const HEADER: &[u8] = b"tick,refused,finished,late,started\r\n";
 // The most that the program "ticks" writes: it lends so much, and refusal 16 cannot come up. A tick takes at least 5
 // bytes of its text.
 pub const TICKS_MOST: usize = HEADER.len()
-    + writers::ROW_OF_FIVE * ((texts::LONGEST - Tick::FIRST) / 5);
+    + writers::ROW_OF_FIVE * ((texts::LONGEST - readers::FIRST_TICK) / 5);
 
 // A run at the place of its next tick: the machine, and how many ticks it took.
 #[derive(Clone, Copy)]
@@ -39,7 +38,7 @@ impl Run {
         ensures run { self.new ≡ run_on text.now self.old }
     {
         let read = readers::tick_at(text, self.at);
-        let x = ticking::tick(&mut self.machine, read.tick.released, read.tick.finished);
+        let x = ticking::tick(&mut self.machine, read.value.released, read.value.finished);
         let row = [
             self.taken,
             u64::from(x.refused.number),
@@ -71,7 +70,7 @@ impl Text for AnsweredTicks<'_> {
         let mut run = Run {
             machine: self.machine,
             taken: 0,
-            at: Tick::FIRST,
+            at: readers::FIRST_TICK,
         };
         for _ in 0..self.count {
             writers::put_row(&run.on(self.text), sink)?;

@@ -192,6 +192,20 @@ module _ (m : Machine) (released finished : ℕ) where
             cores_so,
           ) (le-leb l.running.cores.0 m.table.platform.cores.0 cores))
 
+  -- behind the first pass, where no test told that the state is not good
+  pub record Passed (l : Look) : Type 0 where
+    pub seen : Looked m released finished m.table.n l
+    pub good : GoodState m
+
+  pub passed : length m.table.rows ≡ most_tasks → (i : ℕ) (l : Look) → Looked m released finished i l
+      → m.table.n ≤ i → i ≤ m.table.n
+      → (r : Result Unit Reason) → number_of r ≡ sizes_refusal m.table → is_err r ≡ false
+      → zero_to m most_tasks ≡ true → l.running.cores.0 ≤ m.table.platform.cores.0 → Passed l
+  passed len i l k past few r e b rest cores =
+      let at-end : i ≡ m.table.n = omega arith in
+      let seen : Looked m released finished m.table.n l = rw at-end at k in
+      record { seen = seen; good = state-is len l seen r e b rest cores }
+
 -- what an accepted tick is
 pub record Accepts (m : Machine) (released finished : ℕ) : Type 0 where
   pub test : good_state m ≡ true

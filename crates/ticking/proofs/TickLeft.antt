@@ -14,7 +14,7 @@ use Rattle.table.specs.declared.Refusal.{Refusal}
 use Rattle.sets.specs.TaskSets.{has_task}
 use Rattle.sets.proofs.Wheres.{task_or}
 use Rattle.machine.specs.declared.Job.{Job}
-use Rattle.ticking.specs.declared.Report.{Report}
+use Rattle.machine.specs.declared.Report.{Report}
 use Rattle.ticking.specs.declared.Turn.{Turn}
 use Rattle.ticking.specs.declared.Busy.{Busy}
 use Rattle.ticking.specs.declared.Look.{Look}

@@ -21,7 +21,7 @@ use Rattle.table.proofs.Good.{row-unrefused}
 use Rattle.sets.specs.Families.{union_of}
 use Rattle.sets.specs.TaskSets.{has_task}
 use Rattle.sets.proofs.Unions.{union-none, union_more, apart-less, apart-last}
-use Rattle.ticking.specs.declared.Report.{Report}
+use Rattle.machine.specs.declared.Report.{Report}
 use Rattle.ticking.specs.declared.Look.{Look}
 use Rattle.machine.specs.declared.Machine.{Machine}
 use Rattle.machine.specs.Jobs.{job, runs}

@@ -6,8 +6,8 @@ ghost use Rattle.sets.specs.Sets.{below, without};
 ghost use Rattle.machine.specs.Conditions.{has_nothing, idles_well, runs_well, good_job};
 ghost use Rattle.ticking.specs.Code.Passes.{turn_of, is_left};
 
-use crate::{Report, Turn};
-use machine::{Job, Machine};
+use crate::Turn;
+use machine::{Job, Machine, Report};
 use table::Partitions;
 
 // The lists of a machine are as long as its type says. A proof learns it of what is lent from a read alone.

@@ -6,9 +6,9 @@ ghost use Rattle.ticking.specs.Code.Passes.{InPeriod, Fewer, busy_none, busy_and
 ghost use Rattle.ticking.specs.Code.Passes.{look_with, past_start, past_with, past_none, zero_to, judged};
 
 use crate::jobs::full_lists;
-use crate::refusing::first_of;
-use crate::{Busy, Look, Past, Report, Turn};
-use machine::{Job, Machine, Stage};
+use crate::refusing::{first_above, first_of};
+use crate::{Busy, Look, Past, Turn};
+use machine::{Job, Machine, Report, Stage};
 use table::{Cores, Partitions, Reason, Refusal, Table, Task};
 
 impl Busy {
@@ -160,7 +160,7 @@ pub(crate) fn judge(m: &Machine, report: Report) -> Result<Busy, Refusal>
     if platform.cores.0 < look.running.cores.0 || !rest_is_zero(m) {
         return Err(Refusal::from(Reason::State));
     }
-    if let Some(k) = report.first_above(m.table.n) {
+    if let Some(k) = first_above(report, m.table.n) {
         return Err(Refusal::new(Reason::Task, k));
     }
     look.refused?;

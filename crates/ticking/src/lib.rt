@@ -3,8 +3,6 @@
 #![tactic(auto)]
 
 ghost use Rattle.std.specs.Prelude.{◌≡◌};
-ghost use Rattle.std.specs.Int.Bits.{bit_or};
-ghost use Rattle.sets.specs.TaskSets.{has_task};
 ghost use Rattle.machine.specs.Tick.{tick};
 
 mod jobs;
@@ -14,15 +12,8 @@ mod refusing;
 
 use crate::judging::judge;
 use crate::moving::move_jobs;
-use machine::{Answer, Job, Machine};
+use machine::{Answer, Job, Machine, Report};
 use table::{Cores, Partitions, Refusal, Task};
-
-// What a tick is brought: the tasks that are released and those that finished.
-#[derive(Clone, Copy)]
-struct Report {
-    released: u32,
-    finished: u32,
-}
 
 // A task at its turn: its number, its row and its job.
 #[derive(Clone, Copy)]
@@ -57,7 +48,8 @@ struct Past {
 
 // What a tick's second pass made so far: the job that it came to last; whether step 5 goes on, with how many idle
 // cores, which idle partitions and how many; and the sets to answer. `goes` is no flag over the counts: they are the
-// machine's when step 5 has ended too, and the proof of a rehearsal holds its own to them.
+// machine's when step 5 has ended too, and the proof of a rehearsal holds its own to them. `job` beside the walk is no
+// plainer: each function here would answer a pair, and the proof's one sequence of walks would be two.
 #[derive(Clone, Copy)]
 pub struct Walk {
     job: Job,
@@ -67,27 +59,6 @@ pub struct Walk {
     partitions: Partitions,
     late: u32,
     started: u32,
-}
-
-impl Report {
-    fn releases(self, k: usize) -> bool
-        ensures { result ≡ has_task self.released k }
-    {
-        sets::has_task(self.released, k)
-    }
-
-    fn finishes(self, k: usize) -> bool
-        ensures { result ≡ has_task self.finished k }
-    {
-        sets::has_task(self.finished, k)
-    }
-
-    // One of the sets names task k.
-    fn names(self, k: usize) -> bool
-        ensures { result ≡ has_task (bit_or self.released self.finished) k }
-    {
-        sets::has_task(self.released | self.finished, k)
-    }
 }
 
 // One tick of the machine: a refused one leaves it as it was.

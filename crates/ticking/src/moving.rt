@@ -8,8 +8,8 @@ ghost use Rattle.ticking.specs.Code.Passes.{InPeriod, cores_less, walk_start, la
 ghost use Rattle.ticking.specs.Code.Passes.{walk_begin, walk_with, judged};
 
 use crate::jobs::full_lists;
-use crate::{Busy, Report, Turn, Walk};
-use machine::{Job, Machine, Stage};
+use crate::{Busy, Turn, Walk};
+use machine::{Job, Machine, Report, Stage};
 use table::{Cores, Partitions, Platform};
 
 impl Turn {

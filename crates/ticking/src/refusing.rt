@@ -7,7 +7,8 @@ ghost use Rattle.sets.specs.TaskSets.{has_task};
 ghost use Rattle.ticking.specs.Code.Passes.{InPeriod, given10, given11, given12, given13, given_number};
 ghost use Rattle.ticking.specs.Code.Passes.{first_above, task_or_none, first_of};
 
-use crate::{Report, Turn};
+use crate::Turn;
+use machine::Report;
 use table::{Reason, Refusal, Table};
 
 impl Turn {
@@ -62,30 +63,28 @@ impl Turn {
     }
 }
 
-impl Report {
-    // Neither set names a task above n.
-    fn is_within(self, n: usize) -> bool
-        requires { n ≤ most_tasks }
-        ensures { result ≡ ltb (bit_or self.released self.finished) (2 ^ n) }
-    {
-        u64::from(self.released | self.finished) >> n == 0
-    }
+// Neither set names a task above n.
+fn is_within(report: Report, n: usize) -> bool
+    requires { n ≤ most_tasks }
+    ensures { result ≡ ltb (bit_or report.released report.finished) (2 ^ n) }
+{
+    u64::from(report.released | report.finished) >> n == 0
+}
 
-    // The lowest task above n in one of the sets.
-    pub(crate) fn first_above(self, n: usize) -> Option<usize>
-        requires { n ≤ most_tasks }
-        ensures { result ≡ task_or_none (first_above (bit_or self.released self.finished) n) }
-    {
-        if self.is_within(n) {
-            return None;
-        }
-        for i in n..Table::MOST {
-            if self.names(i + 1) {
-                return Some(i + 1);
-            }
-        }
-        None
+// The lowest task above n in one of the sets.
+pub(crate) fn first_above(report: Report, n: usize) -> Option<usize>
+    requires { n ≤ most_tasks }
+    ensures { result ≡ task_or_none (first_above (bit_or report.released report.finished) n) }
+{
+    if is_within(report, n) {
+        return None;
     }
+    for i in n..Table::MOST {
+        if report.names(i + 1) {
+            return Some(i + 1);
+        }
+    }
+    None
 }
 
 // What was found of the tasks before task k, or of task k: the lower number goes first, then the lower task.

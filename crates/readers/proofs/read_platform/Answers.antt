@@ -1,5 +1,6 @@
-use Rattle.std.proofs.Common.{Ok, Err}
+use Rattle.std.proofs.Common.{Err}
 use mathlib.Core.Path.{sym, ap, ◌∙◌}
+use native.Mathlib.Omega.{arith}
 use Rattle.std.proofs.lemmas.Result.{err_from_is_err_and}
 use Rattle.forms.specs.Forms.{platform_form}
 use Rattle.readers.specs.Inputs.{platform_read}
@@ -24,9 +25,10 @@ returns-then-row-s c =
     ap Err c.from.ensures
     ∙ sym (ap platform_read (second-row c.args.s.now _ c.in_ok-at.ensures _ c.in_ok-row.ensures c.if-row-s.true))
 
-pub platform_of-requires : goal.platform_of-requires
-platform_of-requires c = row-narrow c.args.s.now 2 c.in_ok-at.at _ c.in_ok-row.ensures
+pub narrow-requires : goal.narrow-requires
+narrow-requires c = (omega arith, (omega arith, row-narrow c.args.s.now 2 c.in_ok-at.at _ c.in_ok-row.ensures))
 
 pub returns : goal.returns
 returns c =
-    ap Ok c.platform_of.ensures ∙ sym (one-row c.args.s.now _ c.in_ok-at.ensures _ c.in_ok-row.ensures c.if-row-s.false)
+    rw (c.platform_of.ensures, c.narrow.ensures)
+    (sym (one-row c.args.s.now _ c.in_ok-at.ensures _ c.in_ok-row.ensures c.if-row-s.false))

@@ -26,8 +26,8 @@ returns-in_err-row c =
     ∙ sym (ap (table_read c.args.platform) (here-bad _ _ _ _ c.loop-at.invariant.1 c.loop-at-test.true _
     c.in_err-row.ensures))
 
-pub task_of-requires : goal.task_of-requires
-task_of-requires c = row-narrow c.args.s.now 4 c.loop-at.at _ c.in_ok-row.ensures
+pub narrow-requires : goal.narrow-requires
+narrow-requires c = (omega arith, (omega arith, row-narrow c.args.s.now 4 c.loop-at.at _ c.in_ok-row.ensures))
 
 pub loop-at-smaller : goal.loop-at-smaller
 loop-at-smaller c =
@@ -39,7 +39,7 @@ loop-at-preserved c =
     let here = c.loop-at.invariant.1 in
     let test = c.loop-at-test.true in
     elim c.if-table-lt-MOST.branch [
-      | then-table-lt-MOST w ↦ rw (w.table-is, w.task_of.ensures)
+      | then-table-lt-MOST w ↦ rw (w.table-is, w.task_of.ensures, w.narrow.ensures)
           (c.loop-at.invariant.0, here-kept _ _ _ _ here test _ c.in_ok-row.ensures w.if-table-lt-MOST.true)
       | else-table-lt-MOST w ↦ rw w.table-is
           (c.loop-at.invariant.0, here-full _ _ _ _ here test _ c.in_ok-row.ensures w.if-table-lt-MOST.false)

@@ -31,12 +31,12 @@ pub record CountedTicks (text : List ℕ) (count : ℕ) : Type 0 where
 unfoldable pub run_on : List ℕ → Run → Run
 run_on text r =
     let x = tick_at text r.at in
-    let t = tick_with r.machine x.tick in
+    let t = tick_with r.machine x.value in
     record { machine = t.machine; taken = counted r.taken t.answer.refused; at = x.next }
 
 -- the row of that tick
 unfoldable pub line_on : List ℕ → Run → List ℕ
-line_on text r = run_row r.taken (tick_with r.machine (tick_at text r.at).tick)
+line_on text r = run_row r.taken (tick_with r.machine (tick_at text r.at).value)
 
 -- the machine and how many ticks it is to take, from a table and ticks that were taken: the table is judged next
 abbrev pub judged : Result Table Refusal → Result ℕ Refusal → Result (Machine × ℕ) Refusal

@@ -21,7 +21,7 @@ use Rattle.sets.specs.TaskSets.{has_task, task_bit}
 use Rattle.sets.specs.Choice.{choice}
 use Rattle.machine.specs.declared.Job.{Job}
 use Rattle.machine.specs.declared.Machine.{Machine}
-use Rattle.ticking.specs.declared.Report.{Report}
+use Rattle.machine.specs.declared.Report.{Report}
 use Rattle.ticking.specs.declared.Turn.{Turn}
 use Rattle.ticking.specs.declared.Busy.{Busy}
 use Rattle.ticking.specs.declared.Look.{Look}

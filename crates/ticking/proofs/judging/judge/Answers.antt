@@ -7,7 +7,7 @@ use Rattle.std.proofs.lemmas.Result.{err_from_is_err_and}
 use Rattle.table.specs.Limits.{most_tasks}
 use Rattle.ticking.proofs.TickCode.{judged-stays}
 use Rattle.ticking.proofs.TickJudge.{few-tasks, no-task-above, judged-bad, judged-nine, judged-given, judged-none}
-use Rattle.ticking.proofs.TickJudge.{sizes-bad, task-bad, rest-bad, cores-bad, state-is}
+use Rattle.ticking.proofs.TickJudge.{sizes-bad, task-bad, rest-bad, cores-bad, passed}
 use Rattle.ticking.proofs.TickLook.{Looked, looked-none, looked-on, looked-out, look-fewer}
 use Rattle.ticking.proofs.judging.judge.Goals.{then-platform-look-via-then-platform-look}
 use Rattle.ticking.proofs.judging.judge.Goals.{then-platform-look-via-else-platform-look+then-not-rest_is_zero}
@@ -88,36 +88,30 @@ returns-in-Some c =
     let m = c.args.m.now in
     let R = c.args.report.released in
     let F = c.args.report.finished in
-    let len : length m.table.rows ≡ most_tasks = c.full_lists.ensures.rows in
-    let at-end : c.loop-i.i ≡ m.table.n = omega arith in
-    let seen : Looked m R F m.table.n c.loop-i.look = rw at-end at c.loop-i.invariant in
-    let good = state-is m R F len _ seen _ c.check_sizes.ensures (sym c.is_err.ensures.value ∙ c.if-is_err.false)
+    let p = passed m R F c.full_lists.ensures.rows _ _ c.loop-i.invariant c.loop-i-test.false (search rules) _
+    c.check_sizes.ensures (sym c.is_err.ensures.value ∙ c.if-is_err.false)
     (sym c.rest_is_zero.ensures ∙ c.if-not-rest_is_zero.false) c.if-platform-look.false in
-    rw (c.new.ensures, judged-nine m R F good c.in-Some.k (sym c.first_above.ensures ∙ c.in-Some.is))
+    rw (c.new.ensures, judged-nine m R F p.good c.in-Some.k (sym c.first_above.ensures ∙ c.in-Some.is))
 
 pub returns-in_err-look-2 : goal.returns-in_err-look-2
 returns-in_err-look-2 c =
     let m = c.args.m.now in
     let R = c.args.report.released in
     let F = c.args.report.finished in
-    let len : length m.table.rows ≡ most_tasks = c.full_lists.ensures.rows in
-    let at-end : c.loop-i.i ≡ m.table.n = omega arith in
-    let seen : Looked m R F m.table.n c.loop-i.look = rw at-end at c.loop-i.invariant in
-    let good = state-is m R F len _ seen _ c.check_sizes.ensures (sym c.is_err.ensures.value ∙ c.if-is_err.false)
+    let p = passed m R F c.full_lists.ensures.rows _ _ c.loop-i.invariant c.loop-i-test.false (search rules) _
+    c.check_sizes.ensures (sym c.is_err.ensures.value ∙ c.if-is_err.false)
     (sym c.rest_is_zero.ensures ∙ c.if-not-rest_is_zero.false) c.if-platform-look.false in
     let none = no-task-above _ (λ x e. c.in_default.not-Some x (c.first_above.ensures ∙ e)) in
     let given = err_from_is_err_and _ c.from_residual-in_err-look-2.ensures.1 in
-    given.1 ∙ (ap Err given.2 ∙ sym (judged-given m R F good none _ seen _ c.in_err-look-2.was))
+    given.1 ∙ (ap Err given.2 ∙ sym (judged-given m R F p.good none _ p.seen _ c.in_err-look-2.was))
 
 pub returns : goal.returns
 returns c =
     let m = c.args.m.now in
     let R = c.args.report.released in
     let F = c.args.report.finished in
-    let len : length m.table.rows ≡ most_tasks = c.full_lists.ensures.rows in
-    let at-end : c.loop-i.i ≡ m.table.n = omega arith in
-    let seen : Looked m R F m.table.n c.loop-i.look = rw at-end at c.loop-i.invariant in
-    let good = state-is m R F len _ seen _ c.check_sizes.ensures (sym c.is_err.ensures.value ∙ c.if-is_err.false)
+    let p = passed m R F c.full_lists.ensures.rows _ _ c.loop-i.invariant c.loop-i-test.false (search rules) _
+    c.check_sizes.ensures (sym c.is_err.ensures.value ∙ c.if-is_err.false)
     (sym c.rest_is_zero.ensures ∙ c.if-not-rest_is_zero.false) c.if-platform-look.false in
     let none = no-task-above _ (λ x e. c.in_default.not-Some x (c.first_above.ensures ∙ e)) in
-    sym (judged-stays m R F len (judged-none m R F good none _ seen _ c.in_ok-look-2.was) _ seen)
+    sym (judged-stays m R F c.full_lists.ensures.rows (judged-none m R F p.good none _ p.seen _ c.in_ok-look-2.was) _ p.seen)

@@ -4,7 +4,7 @@ use borrow.Author.Tests.{ltb-true}
 use borrow.Author.Rules.{rules}
 use Rattle.ticking.specs.Code.Passes.{task_or_none}
 use Rattle.ticking.proofs.TickRules.{above-none, above-found, above-past, none_above}
-use Rattle.ticking.proofs.Report.first_above.Goals as goal
+use Rattle.ticking.proofs.refusing.first_above.Goals as goal
 
 pub returns-then-is_within : goal.returns-then-is_within
 returns-then-is_within c =

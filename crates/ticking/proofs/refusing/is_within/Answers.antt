@@ -1,5 +1,5 @@
 use Rattle.ticking.proofs.TickTurns.{none_from}
-use Rattle.ticking.proofs.Report.is_within.Goals as goal
+use Rattle.ticking.proofs.refusing.is_within.Goals as goal
 
 pub returns : goal.returns
 returns c = rw c.from.ensures (none_from _ c.args.n)

@@ -32,54 +32,54 @@ pub fn read_all<R: Read>(reader: &mut R, buf: &mut [u8]) -> Option<usize>
     Some(at)
 }
 
-// A file of the working folder. Its name stays bytes: a `&str` would ask more of callers.
-pub fn read_file<R: Files>(rt: &R, path: &[u8], buf: &mut [u8]) -> Option<usize>
-    ensures { IfSome result (λ count. Whole count buf.new) }
+// The text of a file of the working folder: what came of it into the buffer. Its name stays bytes: a `&str` would ask more
+// of callers.
+pub fn read_file<'a, R: Files>(rt: &R, path: &[u8], buf: &'a mut [u8]) -> Option<&'a [u8]>
+    ensures { IfSome (option_copied result) (λ text. length text ≤ length buf.old) }
 {
     let name = std::str::from_utf8(path).ok()?;
     let mut file = fs::open(rt, name).ok()?;
-    read_all(&mut file, buf)
+    let count = read_all(&mut file, buf)?;
+    Some(&buf[..count])
 }
 
 // The two texts of a table. Arrays are lent at their length: the prover would count out one that a function itself
 // makes.
-pub fn read_table<R: Files>(
+pub fn read_table<'a, R: Files>(
     rt: &R,
-    platform: &mut [u8; ROOM],
-    tasks: &mut [u8; ROOM],
-) -> (Option<usize>, Option<usize>)
-    ensures { IfSome result.0 (λ count. Whole count platform.new) × IfSome result.1 (λ count. Whole count tasks.new) }
+    platform: &'a mut [u8; ROOM],
+    tasks: &'a mut [u8; ROOM],
+) -> UnitTexts<'a>
+    ensures { IfSome (option_copied result.platform) (λ text. length text ≤ length platform.old)
+        × IfSome (option_copied result.tasks) (λ text. length text ≤ length tasks.old) }
 {
-    let p = read_file(rt, b"platform.csv", platform);
-    let t = read_file(rt, b"tasks.csv", tasks);
-    (p, t)
+    UnitTexts {
+        platform: read_file(rt, b"platform.csv", platform),
+        tasks: read_file(rt, b"tasks.csv", tasks),
+    }
 }
 
-// What a program writes of the two texts of a table, and the most that it can be.
-pub trait Listing {
+// What a program writes of the two texts of a table, never longer than `MOST` bytes.
+pub trait Listing<const MOST: usize> {
     ghost text: { Option (List ℕ) → Option (List ℕ) → List ℕ };
-
-    ghost most: { ℕ };
 
     fn write(unit: UnitTexts, out: &mut [u8]) -> Written
         ensures { Wrote (text (option_copied unit.entry.platform) (option_copied unit.entry.tasks))
             out.old result out.new };
 
-    ghost fits: { (platform tasks : Option (List ℕ)) → length (text platform tasks) ≤ most };
+    ghost fits: { (platform tasks : Option (List ℕ)) → length (text platform tasks) ≤ MOST };
 }
 
-// What the files give, and how long it is: refused only where the buffer is shorter than the listing can be. The texts
+// What the files give, and how long it is: never refused, since the buffer is as long as the listing can be. The texts
 // lie in fixed memory: no heap.
-pub fn put_listing<L: Listing, R: Files>(rt: &R, out: &mut [u8]) -> Written
-    ensures fits { L.most ≤ length out.old → result.refused ≡ no_refusal }
-    ensures whole { Whole result.length out.new }
+pub fn put_listing<const MOST: usize, L: Listing<MOST>, R: Files>(
+    rt: &R,
+    out: &mut [u8; MOST],
+) -> Written
+    ensures { (result.refused ≡ no_refusal) × Whole result.length out.new }
 {
     let mut platform = [0u8; ROOM];
     let mut tasks = [0u8; ROOM];
-    let (p, t) = read_table(rt, &mut platform, &mut tasks);
-    let unit = UnitTexts {
-        platform: p.map(|count| &platform[..count]),
-        tasks: t.map(|count| &tasks[..count]),
-    };
+    let unit = read_table(rt, &mut platform, &mut tasks);
     L::write(unit, out)
 }

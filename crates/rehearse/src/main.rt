@@ -2,15 +2,11 @@
 // started and the tick at which it was late, or the refusal.
 #![tactic(auto)]
 
-ghost use Rattle.std.specs.Prelude.{◌≡◌};
-ghost use Rattle.table.specs.Refused.{no_refusal};
-ghost use Rattle.files.specs.Got.{Whole};
-ghost use Rattle.trials.specs.Rehearse.{rehearse_most, rehearse_text};
+ghost use Rattle.trials.specs.Rehearse.{rehearse_text};
 ghost use Rattle.trials.proofs.Sizes.{rehearse_fits};
 
 use files::Listing;
 use std::io;
-use std::rt::Files;
 use texts::UnitTexts;
 use writers::Written;
 
@@ -18,10 +14,8 @@ const LISTING: usize = trials::REHEARSE_MOST;
 
 struct Rehearse;
 
-impl Listing for Rehearse {
+impl Listing<LISTING> for Rehearse {
     ghost text = { rehearse_text };
-
-    ghost most = { rehearse_most };
 
     fn write(unit: UnitTexts, out: &mut [u8]) -> Written {
         trials::rehearse(unit, out)
@@ -30,16 +24,9 @@ impl Listing for Rehearse {
     ghost fits = { rehearse_fits };
 }
 
-// What the files give, and how long it is. The buffer is never too short: what is said here is said of this program's
-// own buffer.
-fn put_listing<R: Files>(rt: &R, out: &mut [u8; LISTING]) -> Written
-    ensures { (result.refused ≡ no_refusal) × Whole result.length out.new }
-{
-    files::put_listing::<Rehearse, R>(rt, out)
-}
-
 fn main(rt: HostRuntime) -> io::Result<()> {
     let mut out = [0u8; LISTING];
-    let listing = put_listing(&rt, &mut out);
+    // Never refused, as `put_listing` says: the buffer is as long as the longest listing.
+    let listing = files::put_listing::<LISTING, Rehearse, HostRuntime>(&rt, &mut out);
     rt.write_all(&out[..listing.length])
 }

@@ -2,25 +2,26 @@
 // writes a row for each, or the refusal.
 #![tactic(auto)]
 
-ghost use Rattle.std.specs.Prelude.{◌≡◌};
-ghost use Rattle.std.specs.Option.{IfSome};
+ghost use Rattle.std.specs.Prelude.{◌≤◌, ◌≡◌, length};
+ghost use Rattle.std.specs.Option.{IfSome, option_copied};
 ghost use Rattle.table.specs.Refused.{no_refusal};
 ghost use Rattle.files.specs.Got.{Whole};
 
 use files::ROOM;
 use std::io;
 use std::rt::Files;
-use texts::UnitTexts;
 use writers::Written;
 
 const LISTING: usize = runs::TICKS_MOST;
 
-// An array is lent at its length: the prover would count out one that the function itself makes.
-fn read_input<R: Input>(rt: &R, buf: &mut [u8; ROOM]) -> Option<usize>
-    ensures { IfSome result (λ count. Whole count buf.new) }
+// The text of standard input. An array is lent at its length: the prover would count out one that the function itself
+// makes.
+fn read_input<'a, R: Input>(rt: &R, buf: &'a mut [u8; ROOM]) -> Option<&'a [u8]>
+    ensures { IfSome (option_copied result) (λ text. length text ≤ length buf.old) }
 {
     let mut input = rt.reader();
-    files::read_all(&mut input, buf)
+    let count = files::read_all(&mut input, buf)?;
+    Some(&buf[..count])
 }
 
 // What the files and standard input give, and how long it is. The buffer is never too short.
@@ -29,14 +30,10 @@ fn put_listing<R: Files + Input>(rt: &R, out: &mut [u8; LISTING]) -> Written
 {
     let mut platform = [0u8; ROOM];
     let mut tasks = [0u8; ROOM];
-    let (p, t) = files::read_table(rt, &mut platform, &mut tasks);
+    let unit = files::read_table(rt, &mut platform, &mut tasks);
     let mut reports = [0u8; ROOM];
-    let r = read_input(rt, &mut reports);
-    let unit = UnitTexts {
-        platform: p.map(|count| &platform[..count]),
-        tasks: t.map(|count| &tasks[..count]),
-    };
-    runs::ticks(unit, r.map(|count| &reports[..count]), out)
+    let input = read_input(rt, &mut reports);
+    runs::ticks(unit, input, out)
 }
 
 fn main(rt: HostRuntime) -> io::Result<()> {

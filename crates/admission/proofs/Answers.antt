@@ -1,13 +1,17 @@
--- The two answers agree, and each statement allows one result.
+-- The answers agree, and each statement allows one result.
 use mathlib.Core.Path.{◌≡◌, refl}
 use mathlib.Core.Bool.{Bool, true, false, cond, not}
-use Prim.Native.Nat.{◌≤◌}
+use mathlib.Core.List.{List}
+use Prim.Native.Nat.{ℕ, ◌≤◌}
 use native.Mathlib.Nat.{le_trans}
 use native.Mathlib.Omega.{arith}
 use borrow.Author.Tests.{eq-eqb, eqb-true}
+use lib.IntN.{ℤ}
 use lib.ListN.{length}
+use Rattle.std.specs.Prelude.{Option, Result}
 use Rattle.maths.proofs.Determined.{determined}
 use Rattle.maths.proofs.Tasks.{lowest-le}
+use Rattle.table.specs.declared.Refusal.{Refusal}
 use Rattle.table.specs.declared.Table.{Table}
 use Rattle.table.specs.Limits.{most_tasks}
 use Rattle.table.specs.Refused.{refusal, unrefused}
@@ -15,6 +19,7 @@ use Rattle.table.proofs.Good.{good_of}
 use Rattle.admission.specs.declared.FullAnswer.{FullAnswer}
 use Rattle.admission.specs.declared.QuickAnswer.{QuickAnswer}
 use Rattle.admission.specs.Test.{passes, admitted, first_failing}
+use Rattle.admission.specs.Answers.{first_answer, margins_answer}
 use Rattle.admission.specs.Answers.{quick_refused, full_answer, quick_answer, without_margins}
 
 either : (b : Bool) (f g : FullAnswer) → without_margins (cond b f g) ≡ cond b (without_margins f) (without_margins g)
@@ -28,6 +33,13 @@ answers_agree t = either (unrefused t) _ _
 pub full-determined : (t : Table) (r s : FullAnswer) → r ≡ full_answer t → s ≡ full_answer t → r ≡ s
 full-determined t = determined (full_answer t)
 
+pub first-determined : (t : Table) (r s : Result (Option ℕ) Refusal) → r ≡ first_answer t → s ≡ first_answer t → r ≡ s
+first-determined t = determined (first_answer t)
+
+pub margins-determined : (t : Table) (r s : Result (List ℤ) Refusal) → r ≡ margins_answer t → s ≡ margins_answer t
+    → r ≡ s
+margins-determined t = determined (margins_answer t)
+
 pub quick_determined : (t : Table) (r s : QuickAnswer) → r ≡ quick_answer t → s ≡ quick_answer t → r ≡ s
 quick_determined t = determined (quick_answer t)
 
@@ -35,14 +47,6 @@ quick_determined t = determined (quick_answer t)
 module _ (t : Table) where
   abbrev judged : QuickAnswer
   judged = record { refused = refusal t; admitted = admitted t; first = first_failing t }
-
-  pub quick_refusal : (quick_answer t).refused ≡ refusal t
-  unfolding quick_answer
-  quick_refusal = by (unrefused t)
-    where
-      by : (b : Bool) → (cond b judged (quick_refused (refusal t))).refused ≡ refusal t
-      by true = refl
-      by false = refl
 
   pub quick_unrefused : (refusal t).number ≡ 0 → quick_answer t ≡ judged
   unfolding quick_answer

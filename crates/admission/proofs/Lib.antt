@@ -2,5 +2,5 @@ pub mod Bounds
 pub mod Laws
 pub mod Turns
 pub mod Answers
-pub mod Judged
+pub mod Found
 pub mod Shares

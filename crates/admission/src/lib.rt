@@ -1,17 +1,19 @@
 // The admission answers: the second test of the report, task by task, with exact margins.
 #![tactic(auto)]
 
-ghost use Rattle.std.specs.Prelude.{◌≡◌, suc, ◌+◌, ◌^◌, ◌<◌, ◌≤◌, max, not, length, take, MatchResult};
+ghost use Rattle.std.specs.Prelude.{◌≡◌, suc, ◌+◌, ◌^◌, ◌<◌, ◌≤◌, max, not, length, take, MatchResult, IfOk};
 ghost use Rattle.std.specs.List.{position};
 ghost use Rattle.table.specs.Good.{Good, GoodRow};
 ghost use Rattle.table.specs.Limits.{most_tasks, most_cores, most_partitions, longest_period};
+ghost use Rattle.table.specs.Refused.{no_refusal, refusal};
 ghost use Rattle.table.specs.Tasks.{M};
 ghost use Rattle.lives.specs.Report.{equation3, weight_of, limit_of};
 ghost use Rattle.admission.specs.Test.{row, S, Amax, B, less, above0, first_failing};
-ghost use Rattle.admission.specs.Answers.{margins, quick_refused, full_answer, quick_answer};
+ghost use Rattle.admission.specs.Answers.{task_found, margins, first_answer, margins_answer};
+ghost use Rattle.admission.specs.Answers.{quick_refused, full_answer, quick_answer};
 ghost use Rattle.admission.specs.Shares.{is_task, share_in, share_answer};
 ghost use Rattle.admission.specs.Code.Shares.{share_by, load_by};
-ghost use Rattle.admission.specs.Code.Judged.{Refused, Unrefused, found, judged, with_margins};
+ghost use Rattle.admission.specs.Code.Judged.{Refused, judged, with_margins};
 
 use table::{Cores, Partitions, Refusal, Table, Task};
 
@@ -31,6 +33,13 @@ pub struct Share {
     pub interference: u64,
     pub weight: u64,
     pub share: u64,
+}
+
+// A table that is not refused.
+#[derive(Clone, Copy)]
+struct Judged<'a> {
+    table: &'a Table,
+    ghost good: { Good table.now },
 }
 
 // M, and of one task B, a count of partitions, and its slack.
@@ -53,19 +62,6 @@ pub struct QuickAnswer {
 }
 
 impl Measures {
-    // Of task k + 1, from its Amax.
-    fn of(t: &Table, k: usize, most: Partitions) -> Measures
-        requires { Good t.now × (k < t.now.n) × (most.0 ≡ Amax t.now (suc k)) }
-        ensures { (result.m.0 ≡ M t.now) × (result.b.0 ≡ B t.now (suc k)) × (result.s ≡ S t.now (suc k)) }
-    {
-        let task = &t.rows[k];
-        Measures {
-            m: t.platform.cores,
-            b: Partitions(t.platform.partitions.0 - most.0 + 1),
-            s: task.d - task.c,
-        }
-    }
-
     // Equation 3, of a task in a window of the slack.
     fn interference(&self, task: &Task) -> u64
         requires { GoodRow most_partitions task.now }
@@ -99,17 +95,6 @@ impl Measures {
         }
     }
 
-    fn load(&self, t: &Table) -> u64
-        requires { Good t.now }
-        ensures { result ≡ load_by self.now.m.0 self.now.b.0 self.now.s t.now }
-    {
-        let mut load = 0;
-        for task in first_tasks(t, t.n) {
-            load += self.share(task).share;
-        }
-        load
-    }
-
     fn limit(&self) -> u64
         ensures { result ≡ limit_of self.now.m.0 self.now.b.0 self.now.s }
     {
@@ -134,7 +119,7 @@ impl QuickAnswer {
         ensures { result ≡ judged first }
     {
         QuickAnswer {
-            refused: Refusal::NONE,
+            refused: Refusal { number: 0, row: 0 },
             admitted: first.is_none(),
             first: first.unwrap_or(0),
         }
@@ -151,14 +136,6 @@ impl QuickAnswer {
             margins,
         }
     }
-}
-
-// What the check finds of a table. The read of a row is for the proof, which learns from it how many there are.
-fn checked(t: &Table) -> Result<(), Refusal>
-    ensures { MatchResult result (λ _. Unrefused t.now) (λ r. Refused t.now r) }
-{
-    let _row = t.rows[0];
-    t.check()
 }
 
 // The exact difference, below, at and above 0, in the form that document 01 names. No From leads from u64 to i64.
@@ -197,19 +174,103 @@ fn amax(t: &Table, k: usize) -> Partitions
     most
 }
 
-// The margin of each task.
-fn margins(t: &Table) -> [i64; Table::MOST]
-    requires { Good t.now }
-    ensures { result ≡ margins t.now }
-{
-    let mut margins = [0; Table::MOST];
-    let mut most = Partitions(0);
-    for k in 0..t.n {
-        most = largest(most, &t.rows[k]);
-        let x = Measures::of(t, k, most);
-        margins[k] = difference(x.limit(), x.load(t));
+impl Judged<'_> {
+    // Of task k + 1, from its Amax.
+    fn measures(&self, k: usize, most: Partitions) -> Measures
+        requires { (k < self.now.table.now.n) × (most.0 ≡ Amax self.now.table.now (suc k)) }
+        ensures { let t = self.now.table.now in
+            (result.m.0 ≡ M t) × (result.b.0 ≡ B t (suc k)) × (result.s ≡ S t (suc k)) }
+    {
+        let t = self.table;
+        let task = &t.rows[k];
+        Measures {
+            m: t.platform.cores,
+            b: Partitions(t.platform.partitions.0 - most.0 + 1),
+            s: task.d - task.c,
+        }
     }
-    margins
+
+    // The load of the task that was measured.
+    fn load(&self, x: &Measures) -> u64
+        ensures { result ≡ load_by x.now.m.0 x.now.b.0 x.now.s self.now.table.now }
+    {
+        let mut load = 0;
+        for task in first_tasks(self.table, self.table.n) {
+            load += x.share(task).share;
+        }
+        load
+    }
+
+    // The margin of each task.
+    fn margins(&self) -> [i64; Table::MOST]
+        ensures { result ≡ margins self.now.table.now }
+    {
+        let t = self.table;
+        let mut margins = [0; Table::MOST];
+        let mut most = Partitions(0);
+        for k in 0..t.n {
+            most = largest(most, &t.rows[k]);
+            let x = self.measures(k, most);
+            margins[k] = difference(x.limit(), self.load(&x));
+        }
+        margins
+    }
+
+    // The first task that does not pass. Two loops in one function: document 01 names this form, nested loops left by
+    // label with the number of that task, at once where a load reaches its limit.
+    fn first_failing(&self) -> Option<usize>
+        ensures { result ≡ task_found (first_failing self.now.table.now) }
+    {
+        let t = self.table;
+        let mut most = Partitions(0);
+        'tasks: {
+            for k in 0..t.n {
+                most = largest(most, &t.rows[k]);
+                let x = self.measures(k, most);
+                let limit = x.limit();
+                let mut load = 0;
+                for task in first_tasks(t, t.n) {
+                    load += x.share(task).share;
+                    if limit <= load {
+                        break 'tasks Some(k + 1);
+                    }
+                }
+            }
+            None
+        }
+    }
+
+    // What task i + 1 takes of the limit of task k + 1.
+    fn share_at(&self, k: usize, i: usize) -> Share
+        requires { (k < self.now.table.now.n) × (i < self.now.table.now.n) }
+        ensures { result ≡ share_in self.now.table.now (suc k) (suc i) }
+    {
+        let most = amax(self.table, k + 1);
+        self.measures(k, most).share(&self.table.rows[i])
+    }
+}
+
+// What the check finds of a table.
+fn checked(t: &Table) -> Result<Judged, Refusal>
+    ensures { MatchResult result (λ j. (j.table.now ≡ t.now) × (refusal t.now ≡ no_refusal)) (λ r. Refused t.now r) }
+{
+    t.check()?;
+    Ok(Judged { table: t })
+}
+
+// The first task that does not pass, if there is one; or the refusal.
+pub fn first_failing_of(t: &Table) -> Result<Option<usize>, Refusal>
+    ensures { result ≡ first_answer t.now }
+{
+    Ok(checked(t)?.first_failing())
+}
+
+// The margin of each task, of at most 32; or the refusal.
+pub fn margins_of(t: &Table) -> Result<[i64; Table::MOST], Refusal>
+    ensures margins { result ≡ margins_answer t.now }
+    ensures few { IfOk result (λ margins. t.now.n ≤ most_tasks) }
+{
+    Ok(checked(t)?.margins())
 }
 
 // The first margin that is not above 0.
@@ -223,9 +284,8 @@ fn first_not_above_0(margins: &[i64]) -> Option<usize>
 pub fn full_answer(t: &Table) -> FullAnswer
     ensures { result ≡ full_answer t.now }
 {
-    match checked(t) {
-        Ok(()) => {
-            let margins = margins(t);
+    match margins_of(t) {
+        Ok(margins) => {
             let first = first_not_above_0(&margins[..t.n]).map(|k| k + 1);
             QuickAnswer::judged(first).with(margins)
         }
@@ -233,36 +293,12 @@ pub fn full_answer(t: &Table) -> FullAnswer
     }
 }
 
-// The first task that does not pass. Two loops in one function: document 01 names this form, nested loops left by label
-// with the number of that task, at once where a load reaches its limit.
-fn first_failing(t: &Table) -> Option<usize>
-    requires { Good t.now }
-    ensures { result ≡ found (first_failing t.now) }
-{
-    let mut most = Partitions(0);
-    'tasks: {
-        for k in 0..t.n {
-            most = largest(most, &t.rows[k]);
-            let x = Measures::of(t, k, most);
-            let limit = x.limit();
-            let mut load = 0;
-            for task in first_tasks(t, t.n) {
-                load += x.share(task).share;
-                if limit <= load {
-                    break 'tasks Some(k + 1);
-                }
-            }
-        }
-        None
-    }
-}
-
 // The verdict and the first task that does not pass; or the refusal.
 pub fn quick_answer(t: &Table) -> QuickAnswer
     ensures { result ≡ quick_answer t.now }
 {
-    match checked(t) {
-        Ok(()) => QuickAnswer::judged(first_failing(t)),
+    match first_failing_of(t) {
+        Ok(first) => QuickAnswer::judged(first),
         Err(refused) => QuickAnswer::refused(refused),
     }
 }
@@ -273,22 +309,13 @@ fn is_task(t: &Table, k: usize) -> bool
     1 <= k && k <= t.n
 }
 
-// What task i + 1 takes of the limit of task k + 1, of a good table.
-fn share_at(t: &Table, k: usize, i: usize) -> Share
-    requires { Good t.now × (k < t.now.n) × (i < t.now.n) }
-    ensures { result ≡ share_in t.now (suc k) (suc i) }
-{
-    let most = amax(t, k + 1);
-    Measures::of(t, k, most).share(&t.rows[i])
-}
-
 // What task i takes of the limit of task k. Its statement, share_answer, has all 0 and no None where the table is
 // refused or one of them is not a task.
 pub fn share_of(t: &Table, k: usize, i: usize) -> Share
     ensures { result ≡ share_answer t.now k i }
 {
     match checked(t) {
-        Ok(()) if is_task(t, k) && is_task(t, i) => share_at(t, k - 1, i - 1),
+        Ok(judged) if is_task(t, k) && is_task(t, i) => judged.share_at(k - 1, i - 1),
         _ => Share::default(),
     }
 }

@@ -1,12 +1,16 @@
-use mathlib.Core.Path.{◌≡◌}
-use lib.ListN.{length}
-use Rattle.maths.proofs.Lists.{len_mapped}
-use Rattle.table.specs.Limits.{most_tasks}
-use Rattle.admission.proofs.Judged.{checked-is}
-use borrow.Author.Rules.{rules}
+use mathlib.Core.Path.{refl}
+use Rattle.table.specs.Refused.{refusal}
+use Rattle.table.proofs.Good.{good_of}
+use Rattle.admission.proofs.Found.{none_at, value-answered}
 use Rattle.admission.proofs.checked.Goals as goal
+
+pub invariant_of-result : goal.invariant_of-result
+invariant_of-result c =
+    let t = c.args.t.now in
+    let passes = c.in_ok-check.ensures in
+    record { good = good_of t passes.rows (value-answered (refusal t) _ _ passes.answer).1 }
 
 pub returns : goal.returns
 returns c =
-    let rows_32 : length c.args.t.now.rows ≡ most_tasks = search (len_mapped, rules) in
-    rw c.check.ensures.answer (checked-is c.args.t.now rows_32)
+    let t = c.args.t.now in
+    (refl, none_at t (value-answered (refusal t) _ _ c.in_ok-check.ensures.answer).1)

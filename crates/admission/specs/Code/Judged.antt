@@ -1,25 +1,15 @@
 -- What the code finds of a table, and the answers by that. No statement rests on these.
-use Rattle.std.specs.Prelude.{◌≡◌, ℕ, zero, suc, true, false, List, ℤ, Option, Some, None}
+use Rattle.std.specs.Prelude.{◌≡◌, ℕ, true, false, List, ℤ, Option, Some, None}
 use Rattle.table.specs.declared.Table.{Table}
 use Rattle.table.specs.declared.Refusal.{Refusal}
 use Rattle.table.specs.Refused.{no_refusal, refusal}
-use Rattle.table.specs.Good.{Good}
 use Rattle.admission.specs.declared.FullAnswer.{FullAnswer}
 use Rattle.admission.specs.declared.QuickAnswer.{QuickAnswer}
 
--- what is found of a table before its tasks are judged
+-- the refusal of a table that is refused
 pub record Refused (t : Table) (r : Refusal) : Type 0 where
   pub is : refusal t ≡ r
   pub some : r.number ≡ 0 → ⊥
-
-pub record Unrefused (t : Table) : Type 0 where
-  pub is : refusal t ≡ no_refusal
-  pub good : Good t
-
--- the task of that number; none of 0
-abbrev pub found : ℕ → Option ℕ
-found zero = None
-found (suc k) = Some (suc k)
 
 -- the quick answer to a table that is not refused, by the first task that does not pass
 abbrev pub judged : Option ℕ → QuickAnswer

@@ -1,7 +1,7 @@
 -- From what the code finds to the two answers: a table that is refused or not, and the first task that does not pass.
 use Prim.Native.Nat.{ℕ, zero, suc, ◌+◌, ◌<◌, ◌≤◌}
-use mathlib.Core.Path.{◌≡◌, refl, ◌∙◌}
-use mathlib.Core.Bool.{Bool, true, false, cond, not}
+use mathlib.Core.Path.{◌≡◌, refl, sym, ap, ◌∙◌}
+use mathlib.Core.Bool.{Bool, true, false, cond, not, true≢false}
 use mathlib.Core.List.{List, [], ◌∷◌}
 use native.Mathlib.Numerals.{add-one}
 use native.Mathlib.Omega.{arith}
@@ -10,7 +10,9 @@ use lib.Dec.{eqb, leb, eqb-suc-zero}
 use lib.IntN.{ℤ, pos}
 use lib.ListN.{length, take, get_or, replicate, length-take}
 use lib.Seq.{get_or-take}
-use Rattle.std.specs.Prelude.{Ok, Err, Some, MatchResult, option_map}
+use Rattle.std.specs.Prelude.{Result, Ok, Err, Some, option_map}
+use Rattle.std.specs.Result.{is_ok, result_ok, result_err}
+use Rattle.std.proofs.lemmas.Option.{same_Some}
 use Rattle.std.specs.List.{position, position_or_len}
 use Rattle.std.proofs.lemmas.List.Sums.{position_or_len_is}
 use Rattle.maths.specs.Tasks.{tabulate}
@@ -21,11 +23,11 @@ use Rattle.table.specs.Limits.{most_tasks}
 use Rattle.table.specs.declared.Refusal.{Refusal}
 use Rattle.table.specs.Tasks.{P}
 use Rattle.table.specs.Refused.{no_refusal, sizes_refusal, row_refusal, rows_from, rows_refusal, refusal}
-use Rattle.table.specs.Reasons.{outcome}
-use Rattle.table.proofs.Good.{good_of}
+use Rattle.table.specs.Reasons.{answered}
 use Rattle.admission.specs.Test.{above0, margin, passes, first_failing}
-use Rattle.admission.specs.Answers.{margins, quick_refused, full_answer, quick_answer}
-use Rattle.admission.specs.Code.Judged.{Refused, Unrefused, found, judged, with_margins}
+use Rattle.admission.specs.Answers.{task_found, margins}
+use Rattle.admission.specs.Answers.{quick_refused, full_answer, quick_answer}
+use Rattle.admission.specs.Code.Judged.{Refused, judged, with_margins}
 use Rattle.admission.proofs.Laws.{admitted-is}
 
 -- a refusal with number 0 names no row
@@ -41,9 +43,9 @@ rows_none-at p k (τ ∷ τs) e = by (eqb (row_refusal p τ) 0) refl e (rows_non
     by true w e rest = rest e
     by false w e rest = absurd (eqb-false (row_refusal p τ) 0 w e)
 
-none-at : (t : Table) → (refusal t).number ≡ 0 → refusal t ≡ no_refusal
+pub none_at : (t : Table) → (refusal t).number ≡ 0 → refusal t ≡ no_refusal
 unfolding refusal
-none-at t e = by (eqb (sizes_refusal t) 0) refl e
+none_at t e = by (eqb (sizes_refusal t) 0) refl e
   where
     by : (b : Bool) → eqb (sizes_refusal t) 0 ≡ b
         → (cond b (rows_refusal t) (record { number = sizes_refusal t; row = 0 })).number ≡ 0
@@ -51,19 +53,30 @@ none-at t e = by (eqb (sizes_refusal t) 0) refl e
     by true w e = rows_none-at (P t) 1 (take t.n t.rows) e
     by false w e = absurd (eqb-false (sizes_refusal t) 0 w e)
 
--- what the check comes to
-pub checked-is : (t : Table) → length t.rows ≡ most_tasks
-    → MatchResult (outcome (refusal t)) (λ z. Unrefused t) (λ r. Refused t r)
-checked-is t len = by (eqb (refusal t).number 0) refl
-  where
-    by : (b : Bool) → eqb (refusal t).number 0 ≡ b
-        → MatchResult (cond b (Ok (tt {0})) (Err (refusal t))) (λ z. Unrefused t) (λ r. Refused t r)
-    by true w =
-        let none = eqb-true (refusal t).number 0 w in
-        record { is = none-at t none; good = good_of t len none }
-    by false w = record { is = refl; some = eqb-false (refusal t).number 0 w }
+-- a value comes where nothing is refused, and else the refusal
+module _ {A : Type 0} (r : Refusal) (x : A) where
+  pub value-answered : (y : A) → Ok y ≡ answered r x → (y ≡ x) × (r.number ≡ 0)
+  value-answered y e = by (eqb r.number 0) refl e
+    where
+      by : (b : Bool) → eqb r.number 0 ≡ b → ◌≡◌ {A = Result A Refusal} (Ok y) (cond b (Ok x) (Err r))
+          → (y ≡ x) × (r.number ≡ 0)
+      by true w f = (same_Some _ _ (ap result_ok f), eqb-true r.number 0 w)
+      by false w f = absurd (true≢false (ap is_ok f))
 
-judged-is : (first : ℕ) → judged (found first) ≡ record { refused = no_refusal; admitted = eqb first 0; first = first }
+  pub refusal-answered : (s : Refusal) → Err s ≡ answered r x → (r ≡ s) × (r.number ≡ 0 → ⊥)
+  refusal-answered s e = by (eqb r.number 0) refl e
+    where
+      by : (b : Bool) → eqb r.number 0 ≡ b → ◌≡◌ {A = Result A Refusal} (Err s) (cond b (Ok x) (Err r))
+          → (r ≡ s) × (r.number ≡ 0 → ⊥)
+      by true w f = absurd (true≢false (sym (ap is_ok f)))
+      by false w f = (sym (same_Some _ _ (ap result_err f)), eqb-false r.number 0 w)
+
+pub refused_of : (t : Table) (r : Refusal) {A : Type 0} (x : A) → Err r ≡ answered (refusal t) x → Refused t r
+refused_of t r x e =
+    let given = refusal-answered (refusal t) x r e in
+    record { is = given.0; some = rw (← given.0) given.1 }
+
+judged-is : (first : ℕ) → judged (task_found first) ≡ record { refused = no_refusal; admitted = eqb first 0; first = first }
 judged-is zero = refl
 judged-is (suc k) = rw (eqb-suc-zero k) refl
 
@@ -76,14 +89,14 @@ module _ {t : Table} {r : Refusal} (f : Refused t r) where
   unfolding full_answer tabulate
   full-refused-is = rw f.is (simp (ne_eqb r.number 0 f.some))
 
-module _ {t : Table} (u : Unrefused t) where
-  pub quick_is : judged (found (first_failing t)) ≡ quick_answer t
+module _ (t : Table) (none : refusal t ≡ no_refusal) where
+  pub quick_is : judged (task_found (first_failing t)) ≡ quick_answer t
   unfolding quick_answer
-  quick_is = rw u.is (simp (admitted-is t) (judged-is (first_failing t)))
+  quick_is = rw none (simp (admitted-is t) (judged-is (first_failing t)))
 
-  pub full_is : with_margins (judged (found (first_failing t))) (margins t) ≡ full_answer t
+  pub full_is : with_margins (judged (task_found (first_failing t))) (margins t) ≡ full_answer t
   unfolding full_answer
-  full_is = rw (u.is, judged-is (first_failing t)) (simp (admitted-is t))
+  full_is = rw (none, judged-is (first_failing t)) (simp (admitted-is t))
 
 -- of the margins in a row the first that is not above 0 is the first task's that does not pass
 module _ (t : Table) (few : t.n ≤ most_tasks) where
@@ -111,10 +124,10 @@ module _ (t : Table) (few : t.n ≤ most_tasks) where
       position_or_len_is fails listed i (pos 0) (rw all l) (λ j m. rw (margin-at j (omega arith)) (before j m))
       (λ m. let h : i < t.n = omega (arith, m, all) in rw (margin-at i h) (here h))
 
-  pub place-is : option_map suc (position fails listed) ≡ found (first_failing t)
+  pub place-is : option_map suc (position fails listed) ≡ task_found (first_failing t)
   place-is = by (first_failing t) refl
     where
-      by : (first : ℕ) → first_failing t ≡ first → option_map suc (position fails listed) ≡ found first
+      by : (first : ℕ) → first_failing t ≡ first → option_map suc (position fails listed) ≡ task_found first
       by zero e =
           let at = place t.n (omega arith) (lowest-none (λ k. not (passes t k)) t.n e) (λ m. absurd (omega arith)) in
           rw (at, all, le-ltb t.n t.n (omega arith)) refl
@@ -124,5 +137,5 @@ module _ (t : Table) (few : t.n ≤ most_tasks) where
           rw (at, all, lt-ltb k t.n h.0) refl
 
 -- a number that is found
-pub found-some : {first k : ℕ} → first ≡ suc k → Some (k + 1) ≡ found first
+pub found-some : {first k : ℕ} → first ≡ suc k → Some (k + 1) ≡ task_found first
 found-some e = rw (e, add-one)

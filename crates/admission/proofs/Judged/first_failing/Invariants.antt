@@ -4,7 +4,7 @@ use mathlib.Core.Bool.{not}
 use Rattle.maths.specs.Tasks.{lowest}
 use Rattle.admission.specs.Test.{Amax, passes}
 use Rattle.admission.proofs.Turns.{loaded}
-use Rattle.admission.proofs.first_failing.Given as goal
+use Rattle.admission.proofs.Judged.first_failing.Given as goal
 
 abbrev pub invariant-loop-task : goal.invariant-loop-task
 invariant-loop-task l = (l.load ≡ loaded l.x l.t l.task-index) × (0 < l.task-index → l.load < l.limit)

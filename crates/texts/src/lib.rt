@@ -1,12 +1,11 @@
 // Whole texts in, whole text out: what the programs write, and the quick verdict on two texts.
 #![tactic(auto)]
 
-ghost use Rattle.std.specs.Prelude.{◌≡◌, ◌≤◌, MatchResult, IfOk, Ok, Some};
+ghost use Rattle.std.specs.Prelude.{◌≡◌, ◌≤◌, MatchResult, Ok, Some};
 ghost use Rattle.std.specs.Option.{option_copied};
 ghost use Rattle.std.specs.Result.{result_map_both};
 ghost use Rattle.forms.specs.Forms.{platform_form, tasks_form, ticks_form};
 ghost use Rattle.table.specs.Limits.{most_tasks};
-ghost use Rattle.table.specs.Reasons.{outcome};
 ghost use Rattle.readers.specs.Inputs.{platform_read, table_read, ticks_read};
 ghost use Rattle.writers.specs.Outputs.{refused_text, margins_text};
 ghost use Rattle.writers.specs.Written.{Wrote};
@@ -16,7 +15,6 @@ ghost use Rattle.texts.specs.Verdict.{verdict};
 ghost use Rattle.texts.specs.Code.Fitting.{fitting};
 ghost use Rattle.texts.specs.Code.Numbers.{verdict_number};
 
-use admission::FullAnswer;
 use table::{Platform, Reason, Refusal, Table};
 use writers::Written;
 
@@ -31,6 +29,14 @@ pub const ADMIT_MOST: usize = 18 + 27 * Table::MOST;
 pub struct UnitTexts<'a> {
     pub platform: Option<&'a [u8]>,
     pub tasks: Option<&'a [u8]>,
+}
+
+// The margins of a table of n tasks.
+#[derive(Clone, Copy)]
+struct Margins {
+    n: usize,
+    margins: [i64; Table::MOST],
+    ghost few: { n ≤ most_tasks },
 }
 
 // A text as a program takes it: one that is not there or is too long is refused with 15 and 0.
@@ -70,26 +76,17 @@ pub fn take_ticks(ticks: Option<&[u8]>) -> Result<usize, Refusal>
     readers::read_ticks(take(ticks)?)
 }
 
-// A refusal in one of C's records, where number 0 is none.
-fn passed(refused: Refusal) -> Result<(), Refusal>
-    ensures { result ≡ outcome refused }
-{
-    if refused.number != 0 {
-        return Err(refused);
-    }
-    Ok(())
-}
-
-// How many tasks the table of the texts has, and what is answered of it.
-fn judge(unit: UnitTexts) -> Result<(usize, FullAnswer), Refusal>
-    ensures text { let text = admit_text (option_copied unit.entry.platform) (option_copied unit.entry.tasks) in
-        MatchResult result (λ m. margins_text m.0 m.1.margins ≡ text) (λ r. refused_text r ≡ text) }
-    ensures few { IfOk result (λ m. m.0 ≤ most_tasks) }
+// The margins of the texts' table.
+fn judge(unit: UnitTexts) -> Result<Margins, Refusal>
+    ensures { let text = admit_text (option_copied unit.entry.platform) (option_copied unit.entry.tasks) in
+        MatchResult result (λ m. margins_text m.n m.margins ≡ text) (λ r. refused_text r ≡ text) }
 {
     let table = take_table(unit)?;
-    let answer = admission::full_answer(&table);
-    passed(answer.refused)?;
-    Ok((table.n, answer))
+    let margins = admission::margins_of(&table)?;
+    Ok(Margins {
+        n: table.n,
+        margins,
+    })
 }
 
 // What the program "admit" writes.
@@ -98,7 +95,7 @@ pub fn admit(unit: UnitTexts, out: &mut [u8]) -> Written
         out.old result out.new }
 {
     match judge(unit) {
-        Ok((n, answer)) => writers::write_margins(&answer.margins[..n], out),
+        Ok(judged) => writers::write_margins(&judged.margins[..judged.n], out),
         Err(refusal) => writers::write_refused(refusal, out),
     }
 }
@@ -110,13 +107,7 @@ fn first_failing(platform: &[u8], tasks: &[u8]) -> Result<Option<usize>, Refusal
 {
     let platform = readers::read_platform(platform)?;
     let table = readers::read_tasks(tasks, platform)?;
-    let answer = admission::quick_answer(&table);
-    passed(answer.refused)?;
-    // C's record has 0 where every task passes.
-    if answer.first == 0 {
-        return Ok(None);
-    }
-    Ok(Some(answer.first))
+    admission::first_failing_of(&table)
 }
 
 // The quick verdict, one number for C: 0 for admitted, 100 and the first task that does not pass, or the number of the

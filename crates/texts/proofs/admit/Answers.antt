@@ -9,6 +9,6 @@ use Rattle.texts.proofs.admit.Goals as goal
 
 pub returns-in-Ok : goal.returns-in-Ok
 returns-in-Ok c =
-    let judged = c.in-Ok.ensures in
-    let size : length c.in-Ok.answer.margins ≡ most_tasks = search (len_mapped, rules) in
-    rw (← judged.text, margins-first c.in-Ok.n c.in-Ok.answer.margins judged.few (omega arith)) c.write_margins.ensures
+    let m = c.in-Ok.judged in
+    let size : length m.margins ≡ most_tasks = search (len_mapped, rules) in
+    rw (← c.in-Ok.ensures, margins-first m.n m.margins m.few (omega arith)) c.write_margins.ensures

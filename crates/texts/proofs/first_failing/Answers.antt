@@ -1,17 +1,15 @@
 use Prim.Native.Nat.{ℕ}
-use mathlib.Core.Path.{◌≡◌, refl, sym}
+use mathlib.Core.Path.{◌≡◌, refl, sym, ◌∙◌}
 use mathlib.Core.List.{List}
-use native.Mathlib.Omega.{arith}
 use Rattle.std.specs.Prelude.{Ok}
 use Rattle.std.proofs.lemmas.Result.{err_from_is_err_and}
 use Rattle.table.specs.declared.Platform.{Platform}
 use Rattle.readers.specs.Inputs.{platform_read, table_read}
 use Rattle.forms.specs.Forms.{platform_form, tasks_form}
 use Rattle.forms.specs.Reader.{read}
-use Rattle.admission.proofs.Answers.{first-le}
 use Rattle.texts.specs.Verdict.{verdict}
 use Rattle.texts.specs.Given.{given}
-use Rattle.texts.proofs.Answers.{some-refusal, none-refused, numbered-refused, numbered-admitted, numbered-failing}
+use Rattle.texts.proofs.Answers.{number_is, first-few}
 use Rattle.texts.proofs.Given.{first-bad, first_good, rows_32}
 use Rattle.texts.proofs.first_failing.Goals as goal
 
@@ -34,36 +32,14 @@ returns-in_err-table-clause-number c =
     let both = both_read c.args.platform.now c.args.tasks.now c.in_ok-platform.platform c.in_ok-platform.ensures in
     rw (given.1, given.2, ← both, ← c.in_err-table.ensures) refl
 
-pub returns-in_err-passed-clause-number : goal.returns-in_err-passed-clause-number
-unfolding verdict
-returns-in_err-passed-clause-number c =
-    let given = err_from_is_err_and c.from_residual-in_err-passed.result c.from_residual-in_err-passed.ensures.1 in
-    let both = both_read c.args.platform.now c.args.tasks.now c.in_ok-platform.platform c.in_ok-platform.ensures in
-    let a = c.quick_answer-answer in
-    let some = some-refusal a.result.refused _ c.in_err-passed.ensures in
-    rw (given.1, given.2, ← both, ← c.in_ok-table.ensures, ← a.ensures, ← some.0)
-    (sym (numbered-refused a.result some.1))
-
-pub returns-then-answer-eq0-clause-number : goal.returns-then-answer-eq0-clause-number
-unfolding verdict
-returns-then-answer-eq0-clause-number c =
-    let both = both_read c.args.platform.now c.args.tasks.now c.in_ok-platform.platform c.in_ok-platform.ensures in
-    let a = c.quick_answer-answer in
-    rw (← both, ← c.in_ok-table.ensures, ← a.ensures)
-    (sym (numbered-admitted a.result (none-refused a.result.refused c.in_ok-passed.ensures) c.if-answer-eq0.true))
-
 pub returns-clause-number : goal.returns-clause-number
 unfolding verdict
 returns-clause-number c =
     let both = both_read c.args.platform.now c.args.tasks.now c.in_ok-platform.platform c.in_ok-platform.ensures in
-    let a = c.quick_answer-answer in
-    rw (← both, ← c.in_ok-table.ensures, ← a.ensures)
-    (sym (numbered-failing a.result (none-refused a.result.refused c.in_ok-passed.ensures) c.if-answer-eq0.false))
+    rw (← both, ← c.in_ok-table.ensures, c.first_failing_of.ensures) (number_is c.in_ok-table.table)
 
 pub returns-clause-few : goal.returns-clause-few
 returns-clause-few c k e =
     let t = c.in_ok-table in
     let size = rows_32 c.in_ok-platform.platform (read tasks_form c.args.tasks.now) t.table t.ensures in
-    let most = first-le t.table size in
-    let few = rw (sym c.quick_answer-answer.ensures) at most in
-    grind arith
+    first-few t.table size k (sym e ∙ c.first_failing_of.ensures)

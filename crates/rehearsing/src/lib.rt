@@ -38,7 +38,7 @@ fn run(t: &Table, l: u32) -> Rehearsal
 }
 
 // The table rehearsed, or its own refusal, or 17.
-fn tried(t: &Table) -> Result<Rehearsal, Refusal>
+pub fn tried(t: &Table) -> Result<Rehearsal, Refusal>
     ensures { result ≡ answered (bench_refusal t.now) (rehearsed t.now) }
 {
     t.check()?;

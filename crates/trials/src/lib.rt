@@ -63,11 +63,7 @@ fn tried_table(unit: UnitTexts) -> Result<(usize, Rehearsal), Refusal>
         (table_taken (option_copied unit.entry.platform) (option_copied unit.entry.tasks)) }
 {
     let table = texts::take_table(unit)?;
-    let rehearsal = rehearsing::rehearse(&table);
-    // C's record has number 0 where nothing is refused.
-    if rehearsal.refused.number != 0 {
-        return Err(rehearsal.refused);
-    }
+    let rehearsal = rehearsing::tried(&table)?;
     Ok((table.n, rehearsal))
 }
 

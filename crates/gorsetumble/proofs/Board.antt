@@ -13,7 +13,6 @@ use Rattle.forms.specs.Forms.{Form, platform_form, tasks_form, GoodText}
 use Rattle.forms.specs.Reads.{Answer, found, refused, NoText, Reads}
 use Rattle.forms.specs.Reader.{read}
 use Rattle.forms.proofs.Theorem.{reads, unique, only}
-use Rattle.table.specs.declared.Refusal.{Refusal}
 use Rattle.table.specs.declared.Table.{Table}
 use Rattle.table.specs.Limits.{most_tasks}
 use Rattle.table.specs.Tasks.{no_task}
@@ -22,14 +21,13 @@ use Rattle.table.proofs.Refusals.{refusal_carries}
 use Rattle.readers.specs.Inputs.{task_of}
 use Rattle.admission.specs.declared.QuickAnswer.{QuickAnswer}
 use Rattle.admission.specs.Test as test
-use Rattle.admission.specs.Answers.{quick_answer}
 use Rattle.admission.proofs.Laws.{admitted-is}
-use Rattle.admission.proofs.Answers.{quick_refusal, quick_unrefused, first-le}
+use Rattle.admission.proofs.Answers.{quick_unrefused, first-le}
 use Rattle.machine.specs.declared.Machine.{Machine}
 use Rattle.machine.specs.Fresh.{set_up}
 use Rattle.texts.specs.Given.{given, told}
 use Rattle.texts.specs.Verdict.{number_of, quick_number, verdict}
-use Rattle.texts.proofs.Answers.{numbered-refused}
+use Rattle.texts.proofs.Answers.{number_is}
 use Rattle.promise.specs.Promise.{Admitted}
 use Rattle.promise.proofs.Calls.{are_steps}
 use Rattle.gorsetumble.specs.Board as board
@@ -41,9 +39,7 @@ use Rattle.gorsetumble.proofs.Demands.{promised}
 -- the number of a table
 module _ (t : Table) where
   number-refused : ((refusal t).number ≡ 0 → ⊥) → quick_number t ≡ (refusal t).number
-  number-refused h =
-      let e : (quick_answer t).refused.number ≡ (refusal t).number = ap (λ (r : Refusal). r.number) (quick_refusal t) in
-      numbered-refused (quick_answer t) (λ z. h (sym e ∙ z)) ∙ e
+  number-refused h = sym (number_is t) ∙ rw (ne_eqb (refusal t).number 0 h)
 
   module _ (none : (refusal t).number ≡ 0) where
     number-first : quick_number t ≡ cond (eqb (test.first_failing t) 0) 0 (100 + test.first_failing t)

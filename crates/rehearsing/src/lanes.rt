@@ -6,8 +6,9 @@ ghost use Rattle.rehearsing.specs.Code.Lanes.{settled_lane, begun_lane, next_of}
 
 use table::Task;
 
-// Later than any tick of a rehearsal. A number, since with `Option<u32>` for `late` and `ends` the passes took 1.20 to
-// 1.29 times the instructions, and some rehearsals of 16 and 32 tasks more than 1.3 times those of plain C, the bar.
+// Later than any tick of a rehearsal. A number: with `Option<u32>` for `late` and `ends`, measured with rustc on this
+// code without its contracts, the rehearsals of bench/run take 1.03 to 1.21 times the instructions, and that of 4
+// tasks, late early, 200 more a round: 1.59 times plain C's where docs/SPEED.md has 1.43, and the bar is 1.5.
 pub(crate) const NEVER: u32 = u32::MAX;
 
 // A task on the bench, by the ticks at which something becomes of it: its next release, the tick at which its

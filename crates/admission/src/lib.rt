@@ -119,7 +119,7 @@ impl QuickAnswer {
         ensures { result ≡ judged first }
     {
         QuickAnswer {
-            refused: Refusal { number: 0, row: 0 },
+            refused: Refusal::NONE,
             admitted: first.is_none(),
             first: first.unwrap_or(0),
         }

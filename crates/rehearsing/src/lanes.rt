@@ -8,7 +8,7 @@ use table::Task;
 
 // Later than any tick of a rehearsal. A number: with `Option<u32>` for `late` and `ends`, measured with rustc on this
 // code without its contracts, the rehearsals of bench/run take 1.03 to 1.21 times the instructions, and that of 4
-// tasks, late early, 200 more a round: 1.59 times plain C's where docs/SPEED.md has 1.43, and the bar is 1.5.
+// tasks, late early, 200 more a round: that would be 1.59 times plain C's, not 1.43 (docs/SPEED.md); the bar is 1.5.
 pub(crate) const NEVER: u32 = u32::MAX;
 
 // A task on the bench, by the ticks at which something becomes of it: its next release, the tick at which its

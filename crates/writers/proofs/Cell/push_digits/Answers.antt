@@ -8,14 +8,8 @@ loop-rest-init c = spelling_start _ _ (search rules) c.requires c.args.self.now.
 pub overflow_sub-at : goal.overflow_sub-at
 overflow_sub-at c = spelling_room c.loop-rest.invariant
 
-pub bounds-self-at : goal.bounds-self-at
-bounds-self-at c = let some = spelling_room c.loop-rest.invariant in omega (arith, c.loop-rest.invariant.within)
-
 pub loop-rest-preserved : goal.loop-rest-preserved
 loop-rest-preserved c = spelling_more c.loop-rest.invariant c.loop-rest-test.true
-
-pub invariant_of-self-2 : goal.invariant_of-self-2
-invariant_of-self-2 c = record { within = c.loop-rest.invariant.within }
 
 pub push-requires : goal.push-requires
 push-requires c = spelling_room c.loop-rest.invariant

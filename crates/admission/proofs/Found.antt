@@ -76,7 +76,8 @@ refused_of t r x e =
     let given = refusal-answered (refusal t) x r e in
     record { is = given.0; some = rw (← given.0) given.1 }
 
-judged-is : (first : ℕ) → judged (task_found first) ≡ record { refused = no_refusal; admitted = eqb first 0; first = first }
+judged-is : (first : ℕ)
+    → judged (task_found first) ≡ record { refused = no_refusal; admitted = eqb first 0; first = first }
 judged-is zero = refl
 judged-is (suc k) = rw (eqb-suc-zero k) refl
 

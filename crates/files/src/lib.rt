@@ -32,8 +32,8 @@ pub fn read_all<R: Read>(reader: &mut R, buf: &mut [u8]) -> Option<usize>
     Some(at)
 }
 
-// The text of a file of the working folder: what came of it into the buffer. Its name stays bytes: a `&str` would ask more
-// of callers.
+// The text of a file of the working folder: what came of it into the buffer. Its name stays bytes: a `&str` would ask
+// more of callers.
 pub fn read_file<'a, R: Files>(rt: &R, path: &[u8], buf: &'a mut [u8]) -> Option<&'a [u8]>
     ensures { IfSome (option_copied result) (λ text. length text ≤ length buf.old) }
 {

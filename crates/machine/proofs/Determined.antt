@@ -1,6 +1,10 @@
 -- Two results that a public function's statement allows are equal.
 use mathlib.Core.Path.{◌≡◌}
 use mathlib.Core.Bool.{Bool}
+use Rattle.std.specs.Prelude.{ℕ}
+use Rattle.std.specs.Int.Bits.{bit_or}
+use Rattle.sets.specs.TaskSets.{has_task}
+use Rattle.machine.specs.declared.Report.{Report}
 use Rattle.maths.proofs.Determined.{determined, determined-both}
 use Rattle.std.specs.Prelude.{Result}
 use Rattle.table.specs.declared.Refusal.{Refusal}
@@ -40,3 +44,15 @@ pub set-up-determined : (old : Machine) (t : Table) (r s : Result Unit Refusal) 
     → (r ≡ outcome (refusal t)) × (a ≡ (set_up old t).machine)
     → (s ≡ outcome (refusal t)) × (b ≡ (set_up old t).machine) → (r ≡ s) × (a ≡ b)
 set-up-determined old t = determined-both (outcome (refusal t)) (set_up old t).machine
+
+-- of a report and a task
+module _ (x : Report) (k : ℕ) (r s : Bool) where
+  pub releases-determined : r ≡ has_task x.released k → s ≡ has_task x.released k → r ≡ s
+  releases-determined = determined (has_task x.released k) r s
+
+  pub finishes-determined : r ≡ has_task x.finished k → s ≡ has_task x.finished k → r ≡ s
+  finishes-determined = determined (has_task x.finished k) r s
+
+  pub names-determined : r ≡ has_task (bit_or x.released x.finished) k → s ≡ has_task (bit_or x.released x.finished) k
+      → r ≡ s
+  names-determined = determined (has_task (bit_or x.released x.finished) k) r s

@@ -16,7 +16,8 @@ use table::{Cores, Partitions, Platform, Reason, Refusal, Table, Task};
 #[derive(Clone, Copy)]
 struct Offset(usize);
 
-// What a piece of a text says, a number, a row of them or a tick, and the place behind it.
+// What a piece of a text says, a number, a row of them or a tick, and the place behind it. A text and a place are lent
+// apart and no reader moves on in it: a piece that is not there leaves its caller where it was.
 #[derive(Clone, Copy)]
 pub struct Piece<T> {
     pub value: T,

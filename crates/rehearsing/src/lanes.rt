@@ -53,7 +53,8 @@ impl Lane {
         self.due != i && self.late != i && self.ends != i
     }
 
-    // Steps 2 and 4 of tick i: a job that has run C finishes, and a task that is due is released.
+    // Steps 2 and 4 of tick i: a job that has run C finishes, and a task that is due is released. Tick and task go
+    // apart, and `Small` is asked of both: a type of the two would be made for each call and for nothing else.
     pub(crate) fn settle(&mut self, i: u32, task: &Task)
         requires { Small i task.now }
         ensures { self.new ≡ settled_lane i task.now self.old }

@@ -15,7 +15,8 @@ use crate::moving::move_jobs;
 use machine::{Answer, Job, Machine, Report};
 use table::{Cores, Partitions, Refusal, Task};
 
-// A task at its turn: its number, its row and its job.
+// A task at its turn: its number, its row and its job. That they are small (`InPeriod`) is asked where it is needed and
+// no fact of the type, since a turn is looked at before it is known to be good.
 #[derive(Clone, Copy)]
 struct Turn {
     k: usize,

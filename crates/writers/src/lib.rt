@@ -95,7 +95,8 @@ pub trait Text {
     }
 }
 
-// C's record, as is that of two texts: refusal 0 and the length stand for Ok, the refusal and 0 for Err.
+// C's record, as is that of two texts: refusal 0 and the length stand for Ok, the refusal and 0 for Err. No Result: the
+// exports hand it on as it is, and a program would take a Result apart for its length alone.
 #[repr(C)]
 #[derive(Clone, Copy)]
 pub struct Written {

@@ -28,4 +28,5 @@ returns-in-Ok c =
 
 pub returns-in-Err : goal.returns-in-Err
 returns-in-Err c =
-    c.with-in-Err.ensures ∙ rw c.refused.ensures (full-refused-is (refused_of c.args.t.now _ _ c.in-Err.ensures.margins))
+    c.with-in-Err.ensures
+    ∙ rw c.refused.ensures (full-refused-is (refused_of c.args.t.now _ _ c.in-Err.ensures.margins))

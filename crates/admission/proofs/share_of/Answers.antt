@@ -10,7 +10,8 @@ returns-in-Ok c =
     let t = c.args.t.now in
     let k = sym c.if-is_task.ensures in
     let i = sym c.if-is_task-2.ensures in
-    c.share_at.ensures ∙ rw c.in-Ok.ensures.0 (share_back t c.args.k c.args.i (task_in t c.args.k k).0 (task_in t c.args.i i).0
+    c.share_at.ensures
+    ∙ rw c.in-Ok.ensures.0 (share_back t c.args.k c.args.i (task_in t c.args.k k).0 (task_in t c.args.i i).0
     ∙ share-found t c.args.k c.args.i (sym c.in-Ok.ensures.1) refl k i)
 
 pub returns-in_default : goal.returns-in_default

@@ -37,8 +37,10 @@ pub loop-task-preserved : goal.loop-task-preserved
 loop-task-preserved c =
     let t = c.args.self.now.table.now in
     let tasks = c.first_tasks-task-items.ensures in
-    let l : c.loop-task.task-index < t.n = omega (arith, tasks.many, c.loop-task-test.true) in
-    (loaded-more c.measures-x.result t c.loop-task.invariant.0 tasks.are l c.share-load.ensures, λ z. c.if-limit-load.false)
+    let l : c.loop-task.task-index < t.n = omega (arith, tasks.many, c.loop-task-test.true) in (
+      loaded-more c.measures-x.result t c.loop-task.invariant.0 tasks.are l c.share-load.ensures,
+      λ z. c.if-limit-load.false,
+    )
 
 pub loop-k-preserved : goal.loop-k-preserved
 loop-k-preserved c =

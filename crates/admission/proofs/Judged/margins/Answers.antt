@@ -39,5 +39,6 @@ loop-k-preserved c =
     let is : to_z w64 (of_z w64 c.difference.result) ≡ margin t (suc k) =
     to_z-of_z {w = w64} (record { sfits = c.difference.type_inv }) ∙ (c.difference.ensures ∙ rw (top, sum)) in (
       Amax-more t k c.loop-k.invariant.0 c.largest-most.ensures,
-      rw (is, c.loop-k.invariant.1) (margins-more t k (omega (arith, c.args.self.now.good.sizes.few, c.loop-k-test.true))),
+      rw (is, c.loop-k.invariant.1)
+          (margins-more t k (omega (arith, c.args.self.now.good.sizes.few, c.loop-k-test.true))),
     )

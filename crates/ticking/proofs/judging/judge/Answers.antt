@@ -114,4 +114,5 @@ returns c =
     c.check_sizes.ensures (sym c.is_err.ensures.value ∙ c.if-is_err.false)
     (sym c.rest_is_zero.ensures ∙ c.if-not-rest_is_zero.false) c.if-platform-look.false in
     let none = no-task-above _ (λ x e. c.in_default.not-Some x (c.first_above.ensures ∙ e)) in
-    sym (judged-stays m R F c.full_lists.ensures.rows (judged-none m R F p.good none _ p.seen _ c.in_ok-look-2.was) _ p.seen)
+    sym (judged-stays m R F c.full_lists.ensures.rows
+    (judged-none m R F p.good none _ p.seen _ c.in_ok-look-2.was) _ p.seen)

@@ -8,3 +8,4 @@ pub mod Tasks
 pub mod Determined
 pub mod Arrays
 pub mod Padded
+pub mod Results

@@ -1,6 +1,5 @@
-use Rattle.std.proofs.Common.{Err}
 use mathlib.Core.Path.{sym, ap, ◌∙◌}
-use Rattle.std.proofs.lemmas.Result.{err_from_is_err_and}
+use Rattle.maths.proofs.Results.{handed}
 use Rattle.readers.specs.Places.{word_at}
 use Rattle.readers.proofs.Rows.{cell-none, cell-cut, cell-full}
 use Rattle.readers.proofs.cell_at.Goals as goal
@@ -10,8 +9,7 @@ returns-in_default c = sym (cell-none c.args.most c.args.s.now c.args.at _ (sym 
 
 pub returns-in_err-word_at : goal.returns-in_err-word_at
 returns-in_err-word_at c =
-    let given = err_from_is_err_and c.from_residual.result c.from_residual.ensures.1 in
-    given.1 ∙ ap Err given.2
+    handed _ c.from_residual.ensures
     ∙ cell-cut c.args.most c.args.s.now c.args.at _ _ c.in-Some.ensures _
     (c.in_err-word_at.ensures ∙ ap (word_at c.args.s.now c.in-Some.x.next) c.ending.ensures)
 

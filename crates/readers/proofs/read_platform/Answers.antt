@@ -1,7 +1,7 @@
 use Rattle.std.proofs.Common.{Err}
 use mathlib.Core.Path.{sym, ap, ◌∙◌}
 use native.Mathlib.Omega.{arith}
-use Rattle.std.proofs.lemmas.Result.{err_from_is_err_and}
+use Rattle.maths.proofs.Results.{handed}
 use Rattle.forms.specs.Forms.{platform_form}
 use Rattle.readers.specs.Inputs.{platform_read}
 use Rattle.readers.proofs.Rows.{row-narrow}
@@ -11,13 +11,11 @@ use Rattle.readers.proofs.read_platform.Goals as goal
 
 pub returns-in_err-at : goal.returns-in_err-at
 returns-in_err-at c =
-    let given = err_from_is_err_and c.from_residual.result c.from_residual.ensures.1 in
-    given.1 ∙ ap Err given.2 ∙ sym (ap platform_read (head-bad platform_form c.args.s.now _ c.in_err-at.ensures))
+    handed _ c.from_residual.ensures ∙ sym (ap platform_read (head-bad platform_form c.args.s.now _ c.in_err-at.ensures))
 
 pub returns-in_err-row : goal.returns-in_err-row
 returns-in_err-row c =
-    let given = err_from_is_err_and c.from_residual-in_err-row.result c.from_residual-in_err-row.ensures.1 in
-    given.1 ∙ ap Err given.2
+    handed _ c.from_residual-in_err-row.ensures
     ∙ sym (ap platform_read (cut-row c.args.s.now _ c.in_ok-at.ensures _ c.in_err-row.ensures))
 
 pub returns-then-row-s : goal.returns-then-row-s

@@ -1,7 +1,6 @@
-use Rattle.std.proofs.Common.{Err}
 use mathlib.Core.Path.{refl, sym, ap, ◌∙◌}
 use native.Mathlib.Omega.{arith}
-use Rattle.std.proofs.lemmas.Result.{err_from_is_err_and}
+use Rattle.maths.proofs.Results.{handed}
 use Rattle.forms.specs.Forms.{tasks_form}
 use Rattle.readers.specs.Inputs.{table_read}
 use Rattle.readers.proofs.Rows.{row-narrow}
@@ -12,8 +11,7 @@ use Rattle.readers.proofs.read_tasks.Goals as goal
 
 pub returns-in_err-at : goal.returns-in_err-at
 returns-in_err-at c =
-    let given = err_from_is_err_and c.from_residual.result c.from_residual.ensures.1 in
-    given.1 ∙ ap Err given.2
+    handed _ c.from_residual.ensures
     ∙ sym (ap (table_read c.args.platform) (head-bad tasks_form c.args.s.now _ c.in_err-at.ensures))
 
 pub loop-at-init : goal.loop-at-init
@@ -21,8 +19,7 @@ loop-at-init c = rw c.empty-table.ensures (refl, here-start c.args.s.now _ c.in_
 
 pub returns-in_err-row : goal.returns-in_err-row
 returns-in_err-row c =
-    let given = err_from_is_err_and c.from_residual-in_err-row.result c.from_residual-in_err-row.ensures.1 in
-    given.1 ∙ ap Err given.2
+    handed _ c.from_residual-in_err-row.ensures
     ∙ sym (ap (table_read c.args.platform) (here-bad _ _ _ _ c.loop-at.invariant.1 c.loop-at-test.true _
     c.in_err-row.ensures))
 

@@ -1,7 +1,6 @@
-use Rattle.std.proofs.Common.{Err}
 use mathlib.Core.Path.{refl, sym, ap, ◌∙◌}
 use native.Mathlib.Omega.{arith}
-use Rattle.std.proofs.lemmas.Result.{err_from_is_err_and}
+use Rattle.maths.proofs.Results.{handed}
 use Rattle.forms.specs.Forms.{ticks_form}
 use Rattle.readers.specs.Inputs.{ticks_read}
 use Rattle.readers.proofs.Texts.{head-bad, line-start, line-end, line-bad, line_row, line-next}
@@ -9,16 +8,14 @@ use Rattle.readers.proofs.read_ticks.Goals as goal
 
 pub returns-in_err-at : goal.returns-in_err-at
 returns-in_err-at c =
-    let given = err_from_is_err_and c.from_residual.result c.from_residual.ensures.1 in
-    given.1 ∙ ap Err given.2 ∙ sym (ap ticks_read (head-bad ticks_form c.args.s.now _ c.in_err-at.ensures))
+    handed _ c.from_residual.ensures ∙ sym (ap ticks_read (head-bad ticks_form c.args.s.now _ c.in_err-at.ensures))
 
 pub loop-at-init : goal.loop-at-init
 loop-at-init c = record { rows = _; line = line-start ticks_form refl c.args.s.now _ c.in_ok-at.ensures }
 
 pub returns-in_err-at-2 : goal.returns-in_err-at-2
 returns-in_err-at-2 c =
-    let given = err_from_is_err_and c.from_residual-in_err-at-2.result c.from_residual-in_err-at-2.ensures.1 in
-    given.1 ∙ ap Err given.2
+    handed _ c.from_residual-in_err-at-2.ensures
     ∙ sym (ap ticks_read (line-bad ticks_form refl _ _ _ _ c.loop-at.invariant.line c.loop-at-test.true _
     c.in_err-at-2.ensures))
 

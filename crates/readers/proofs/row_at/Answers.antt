@@ -1,12 +1,11 @@
-use Rattle.std.proofs.Common.{Err}
-use mathlib.Core.Path.{◌≡◌, refl, sym, ap, ◌∙◌}
+use mathlib.Core.Path.{◌≡◌, refl, sym, ◌∙◌}
 use native.Mathlib.Omega.{arith}
 use native.Mathlib.Numerals.{add-one}
 use borrow.Author.Rules.{rules}
 use lib.ListN.{length, length-set}
 use lib.Seq.{take-suc-set}
 use Rattle.std.proofs.lemmas.List.{take_all}
-use Rattle.std.proofs.lemmas.Result.{err_from_is_err_and}
+use Rattle.maths.proofs.Results.{handed}
 use Rattle.maths.proofs.Lists.{len_mapped}
 use Rattle.readers.proofs.Rows.{row_more, row-stop, row-end}
 use Rattle.readers.proofs.row_at.Goals as goal
@@ -16,8 +15,7 @@ returns-in_err-x g c =
     let loop = c.loop-j in
     let columns = c.args.columns.now in
     let wide : length columns ≡ g.row.N = search (len_mapped, rules) in
-    let given = err_from_is_err_and c.from_residual.result c.from_residual.ensures.1 in
-    given.1 ∙ ap Err given.2
+    handed _ c.from_residual.ensures
     ∙ sym (loop.invariant.1 ∙ row-stop c.args.s.now _ columns loop.j loop.next (omega arith) _
     (rw wide c.in_err-x.ensures))
 

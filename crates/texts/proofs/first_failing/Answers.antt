@@ -2,7 +2,7 @@ use Prim.Native.Nat.{ℕ}
 use mathlib.Core.Path.{◌≡◌, refl, sym, ◌∙◌}
 use mathlib.Core.List.{List}
 use Rattle.std.specs.Prelude.{Ok}
-use Rattle.std.proofs.lemmas.Result.{err_from_is_err_and}
+use Rattle.maths.proofs.Results.{handed}
 use Rattle.table.specs.declared.Platform.{Platform}
 use Rattle.readers.specs.Inputs.{platform_read, table_read}
 use Rattle.forms.specs.Forms.{platform_form, tasks_form}
@@ -21,16 +21,14 @@ both_read platform tasks = first_good (read platform_form platform) (read tasks_
 pub returns-in_err-platform-clause-number : goal.returns-in_err-platform-clause-number
 unfolding verdict
 returns-in_err-platform-clause-number c =
-    let given = err_from_is_err_and c.from_residual.result c.from_residual.ensures.1 in
     let bad = first-bad (read platform_form c.args.platform.now) (read tasks_form c.args.tasks.now) in
-    rw (given.1, given.2, ← bad _ c.in_err-platform.ensures) refl
+    rw (handed _ c.from_residual.ensures, ← bad _ c.in_err-platform.ensures) refl
 
 pub returns-in_err-table-clause-number : goal.returns-in_err-table-clause-number
 unfolding verdict
 returns-in_err-table-clause-number c =
-    let given = err_from_is_err_and c.from_residual-in_err-table.result c.from_residual-in_err-table.ensures.1 in
     let both = both_read c.args.platform.now c.args.tasks.now c.in_ok-platform.platform c.in_ok-platform.ensures in
-    rw (given.1, given.2, ← both, ← c.in_err-table.ensures) refl
+    rw (handed _ c.from_residual-in_err-table.ensures, ← both, ← c.in_err-table.ensures) refl
 
 pub returns-clause-number : goal.returns-clause-number
 unfolding verdict

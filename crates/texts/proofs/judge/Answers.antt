@@ -1,5 +1,5 @@
 use mathlib.Core.Path.{refl}
-use Rattle.std.proofs.lemmas.Result.{err_from_is_err_and}
+use Rattle.maths.proofs.Results.{handed}
 use Rattle.texts.specs.Admit.{admit_text}
 use Rattle.texts.proofs.Answers.{judged-margins, judged-refused}
 use Rattle.texts.proofs.judge.Goals as goal
@@ -7,14 +7,12 @@ use Rattle.texts.proofs.judge.Goals as goal
 pub returns-in_err-table : goal.returns-in_err-table
 unfolding admit_text
 returns-in_err-table c =
-    let given = err_from_is_err_and c.from_residual.result c.from_residual.ensures.1 in
-    rw (given.1, given.2, ← c.in_err-table.ensures) refl
+    rw (handed _ c.from_residual.ensures, ← c.in_err-table.ensures) refl
 
 pub returns-in_err-margins : goal.returns-in_err-margins
 unfolding admit_text
 returns-in_err-margins c =
-    let given = err_from_is_err_and c.from_residual-in_err-margins.result c.from_residual-in_err-margins.ensures.1 in
-    rw (given.1, given.2, ← c.in_ok-table.ensures) (judged-refused _ _ c.in_err-margins.ensures.margins)
+    rw (handed _ c.from_residual-in_err-margins.ensures, ← c.in_ok-table.ensures) (judged-refused _ _ c.in_err-margins.ensures.margins)
 
 pub returns : goal.returns
 unfolding admit_text

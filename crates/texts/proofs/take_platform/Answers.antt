@@ -1,5 +1,5 @@
 use mathlib.Core.Path.{refl}
-use Rattle.std.proofs.lemmas.Result.{err_from_is_err_and}
+use Rattle.maths.proofs.Results.{handed}
 use Rattle.forms.specs.Forms.{platform_form}
 use Rattle.readers.specs.Inputs.{platform_read}
 use Rattle.texts.proofs.Given.{taken_not, taken-read}
@@ -7,8 +7,7 @@ use Rattle.texts.proofs.take_platform.Goals as goal
 
 pub returns-in_err-take : goal.returns-in_err-take
 returns-in_err-take c =
-    let given = err_from_is_err_and c.from_residual.result c.from_residual.ensures.1 in
-    rw (given.1, given.2) (taken_not platform_form _ _ c.in_err-take.ensures platform_read refl)
+    rw (handed _ c.from_residual.ensures) (taken_not platform_form _ _ c.in_err-take.ensures platform_read refl)
 
 pub returns : goal.returns
 returns c = rw (← taken-read platform_form _ _ c.in_ok-take.ensures) c.read_platform.ensures

@@ -1,7 +1,6 @@
 use mathlib.Core.Path.{◌∙◌, sym, ap}
-use Rattle.std.specs.Prelude.{Err}
 use Rattle.std.specs.Result.{result_map_both}
-use Rattle.std.proofs.lemmas.Result.{err_from_is_err_and}
+use Rattle.maths.proofs.Results.{handed}
 use Rattle.forms.specs.Forms.{platform_form, tasks_form}
 use Rattle.forms.specs.Reader.{read}
 use Rattle.gorsetumble.specs.declared.texting.Failure.TheVariants.{Platform, Tasks}
@@ -12,10 +11,9 @@ use Rattle.gorsetumble.proofs.texting.read_texts.Goals as goal
 pub returns-in_err-held : goal.returns-in_err-held
 unfolding texts_read
 returns-in_err-held c =
-    let given = err_from_is_err_and c.from_residual.result c.from_residual.ensures.1 in
     let found = mapped Platform c.read_platform.result c.map_err.result c.map_err.ensures.cases
     ∙ ap (result_map_both (λ p. p) Platform) c.read_platform.ensures in
-    given.1 ∙ ap Err given.2
+    handed _ c.from_residual.ensures
     ∙ platform-bad (read platform_form c.args.platform.now) (read tasks_form c.args.tasks.now) _
     (sym c.in_err-held.was ∙ found)
 

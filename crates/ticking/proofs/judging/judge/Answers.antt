@@ -3,7 +3,7 @@ use mathlib.Core.Path.{◌≡◌, sym, ◌∙◌}
 use native.Mathlib.Omega.{arith}
 use borrow.Author.Rules.{rules}
 use lib.ListN.{length}
-use Rattle.std.proofs.lemmas.Result.{err_from_is_err_and}
+use Rattle.maths.proofs.Results.{handed}
 use Rattle.table.specs.Limits.{most_tasks}
 use Rattle.ticking.proofs.TickCode.{judged-stays}
 use Rattle.ticking.proofs.TickJudge.{few-tasks, no-task-above, judged-bad, judged-nine, judged-given, judged-none}
@@ -42,11 +42,10 @@ pub returns-in_err-look : goal.returns-in_err-look
 returns-in_err-look c =
     let m = c.args.m.now in
     let len : length m.table.rows ≡ most_tasks = c.full_lists.ensures.rows in
-    let given = err_from_is_err_and c.from_residual.result c.from_residual.ensures.1 in
     let out = looked-out m _ _ c.loop-i.i c.loop-i.look c.loop-i.invariant _
     (rw c.of.ensures at c.in_err-look.ensures) in
-    given.1
-    ∙ (ap Err (given.2 ∙ rw out.0)
+    handed _ c.from_residual.ensures
+    ∙ (ap Err (rw out.0)
     ∙ sym (judged-bad m _ _ (task-bad m _ _ len c.loop-i.i _ c.loop-i.invariant (search rules) out.1)))
 
 pub loop-i-preserved : goal.loop-i-preserved
@@ -102,8 +101,8 @@ returns-in_err-look-2 c =
     c.check_sizes.ensures (sym c.is_err.ensures.value ∙ c.if-is_err.false)
     (sym c.rest_is_zero.ensures ∙ c.if-not-rest_is_zero.false) c.if-platform-look.false in
     let none = no-task-above _ (λ x e. c.in_default.not-Some x (c.first_above.ensures ∙ e)) in
-    let given = err_from_is_err_and _ c.from_residual-in_err-look-2.ensures.1 in
-    given.1 ∙ (ap Err given.2 ∙ sym (judged-given m R F p.good none _ p.seen _ c.in_err-look-2.was))
+    handed _ c.from_residual-in_err-look-2.ensures
+    ∙ sym (judged-given m R F p.good none _ p.seen _ c.in_err-look-2.was)
 
 pub returns : goal.returns
 returns c =

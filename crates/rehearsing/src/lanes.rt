@@ -6,9 +6,9 @@ ghost use Rattle.rehearsing.specs.Code.Lanes.{settled_lane, begun_lane, next_of}
 
 use table::Task;
 
-// Later than any tick of a rehearsal. A number: with `Option<u32>` for `late` and `ends`, measured with rustc on this
-// code without its contracts, the rehearsals of bench/run take 1.03 to 1.21 times the instructions, and that of 4
-// tasks, late early, 200 more a round: that would be 1.59 times plain C's, not 1.43 (docs/SPEED.md); the bar is 1.5.
+// Later than any tick of a rehearsal. A number: with `Option<u32>` for `late` and `ends` a rehearsal of 4 tasks, late
+// early, takes 1.54 times the instructions of plain C, over its bar of 1.5, which the number meets at 1.44
+// (docs/SPEED.md). docs/DESIGN-PASS.md has a second form, whose measure in the whole archive is open.
 pub(crate) const NEVER: u32 = u32::MAX;
 
 // A task on the bench, by the ticks at which something becomes of it: its next release, the tick at which its

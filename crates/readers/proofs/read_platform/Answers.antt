@@ -11,7 +11,8 @@ use Rattle.readers.proofs.read_platform.Goals as goal
 
 pub returns-in_err-at : goal.returns-in_err-at
 returns-in_err-at c =
-    handed _ c.from_residual.ensures ∙ sym (ap platform_read (head-bad platform_form c.args.s.now _ c.in_err-at.ensures))
+    handed _ c.from_residual.ensures
+    ∙ sym (ap platform_read (head-bad platform_form c.args.s.now _ c.in_err-at.ensures))
 
 pub returns-in_err-row : goal.returns-in_err-row
 returns-in_err-row c =

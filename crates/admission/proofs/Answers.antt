@@ -48,6 +48,14 @@ module _ (t : Table) where
   abbrev judged : QuickAnswer
   judged = record { refused = refusal t; admitted = admitted t; first = first_failing t }
 
+  pub quick_refusal : (quick_answer t).refused ≡ refusal t
+  unfolding quick_answer
+  quick_refusal = by (unrefused t)
+    where
+      by : (b : Bool) → (cond b judged (quick_refused (refusal t))).refused ≡ refusal t
+      by true = refl
+      by false = refl
+
   pub quick_unrefused : (refusal t).number ≡ 0 → quick_answer t ≡ judged
   unfolding quick_answer
   quick_unrefused none = rw (eq-eqb (refusal t).number 0 none)

@@ -18,7 +18,7 @@ use Rattle.machine.specs.declared.Stage.{Stage}
 use Rattle.machine.specs.declared.Job.{Job}
 use Rattle.machine.specs.declared.Machine.{Machine}
 use Rattle.machine.specs.Jobs.{is_idle, is_waiting, is_running, no_job}
-use Rattle.machine.specs.Fresh.{fresh, set_up}
+use Rattle.machine.specs.Fresh.{SetUp, fresh, set_up}
 use Rattle.machine.specs.Steps.{fits_in}
 
 pub is-idle-determined : (x : Stage) (r s : Bool) → r ≡ is_idle x → s ≡ is_idle x → r ≡ s
@@ -44,6 +44,10 @@ pub set-up-determined : (old : Machine) (t : Table) (r s : Result Unit Refusal) 
     → (r ≡ outcome (refusal t)) × (a ≡ (set_up old t).machine)
     → (s ≡ outcome (refusal t)) × (b ≡ (set_up old t).machine) → (r ≡ s) × (a ≡ b)
 set-up-determined old t = determined-both (outcome (refusal t)) (set_up old t).machine
+
+-- of what a set-up comes to as one record
+pub set-up-record-determined : (old : Machine) (t : Table) (r s : SetUp) → r ≡ set_up old t → s ≡ set_up old t → r ≡ s
+set-up-record-determined old t = determined (set_up old t)
 
 -- of a report and a task
 module _ (x : Report) (k : ℕ) (r s : Bool) where

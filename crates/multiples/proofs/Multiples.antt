@@ -2,7 +2,7 @@
 use Prim.Native.Nat.{ℕ, ◌*◌, ◌/◌, ◌<◌, ◌≤◌, ◌∣◌}
 use mathlib.Core.Path.{◌≡◌, ap}
 use native.Mathlib.Omega.{arith}
-use native.Mathlib.Nat.{mul_comm, mul-pos, div-mul_cancel, le_of_dvd}
+use native.Mathlib.Nat.{mul_comm, mul-pos, div-mul_cancel, zero-div, zero-mul, le_of_dvd}
 use native.Mathlib.Nat.{dvd-mul_left, dvd-mul_right, mul-dvd-mul_left, mul-dvd-mul_right, dvd_of_mul-dvd-mul_right}
 use native.Mathlib.Nat.{pos_of_dvd_of_pos}
 use Rattle.multiples.specs.Gcd.{gcd, lcm}
@@ -32,3 +32,7 @@ module _ (a b : ℕ) where
   -- so none above 0 is less
   pub lcm-le : (m : ℕ) → 0 < a → 0 < m → a ∣ m → b ∣ m → lcm a b ≤ m
   lcm-le m some above x y = le_of_dvd above (lcm-least m some x y)
+
+-- of 0 it is 0
+pub lcm-none : (b : ℕ) → lcm 0 b ≡ 0
+lcm-none b = rw (zero-div, zero-mul)

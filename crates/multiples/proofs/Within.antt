@@ -2,13 +2,16 @@
 use Prim.Native.Nat.{ℕ, ◌<◌, ◌≤◌}
 use mathlib.Core.Path.{◌≡◌, refl, sym}
 use mathlib.Core.Bool.{Bool, true, false}
-use borrow.Author.Tests.{leb-true, leb-false, lt-leb}
+use borrow.Author.Tests.{leb-true, leb-false, le-leb, lt-leb}
 use lib.Dec.{leb}
 use Rattle.std.specs.Bool.{then_some}
 use Rattle.std.specs.Prelude.{Some, None}
 use Rattle.std.proofs.lemmas.Option.{none-some, same_Some}
 
 module _ (x most : ℕ) where
+  pub is_within : x ≤ most → then_some (leb x most) x ≡ Some x
+  is_within l = rw (le-leb x most l)
+
   pub is-above : most < x → then_some (leb x most) x ≡ None
   is-above l = rw (lt-leb x most l)
 

@@ -2,18 +2,22 @@
 use Prim.Native.Nat.{zero, ◌-◌, ℕ, suc, ◌+◌, ◌<◌, ◌≤◌}
 use mathlib.Core.Path.{◌≡◌, refl, sym, ◌∙◌}
 use mathlib.Core.Bool.{Bool, true, false, cond}
-use mathlib.Core.List.{List, [], ◌∷◌, ◌++◌}
+use mathlib.Core.List.{List, [], ◌∷◌, ◌++◌, append_assoc, append-nil}
 use mathlib.Core.Option
 use mathlib.Core.Option.{Option, none, some}
+use native.Mathlib.Nat.{le_trans}
 use native.Mathlib.Omega.{arith}
 use borrow.Author.Tests.{eq-eqb, ne_eqb}
 use lib.Dec.{eqb}
 use lib.ListN.{length, drop, get_or, replicate, length-drop, drop_of_length-le}
 use lib.Seq.{drop-cons}
 use Rattle.std.specs.Prelude.{Option as Maybe, Some, None, Result, Ok, Err, IfSome, IfOk}
-use Rattle.forms.specs.Forms.{largest, ending}
+use Rattle.forms.specs.Forms
+use Rattle.forms.specs.Forms.{Within, largest, ending}
 use Rattle.forms.specs.Reader.{grow}
 use Rattle.forms.proofs.Grow.{GrownIf, grown}
+use Rattle.forms.proofs.Lines.{within_snoc}
+use Rattle.forms.proofs.Sizes.{within_get_d}
 use Rattle.readers.specs.declared.Offset.{Offset}
 use Rattle.readers.specs.declared.Piece.{Piece}
 use Rattle.readers.specs.Places.{agree_from, agree_at, bad, word_at, ends, number_from, number_at}
@@ -195,13 +199,12 @@ pub row-end : (text numbers mosts : List ℕ) (j next : ℕ) → length mosts �
 unfolding row_from
 row-end text numbers mosts j next h = rw (drop_of_length-le mosts {i = j} h) refl
 
--- no number of a row is above its column's largest
-narrow_more : (numbers : List ℕ) (v : ℕ) → v ≤ largest → Narrow numbers → Narrow (numbers ++ (v ∷ []))
-narrow_more [] v l h zero = l
-narrow_more [] v l h (suc i) = omega arith
-narrow_more (n ∷ numbers) v l h zero = h 0
-narrow_more (n ∷ numbers) v l h (suc i) = narrow_more numbers v l (λ i. h (suc i)) i
+replicate-most : (n i : ℕ) → get_or (replicate n largest) i 0 ≤ largest
+replicate-most zero i = omega arith
+replicate-most (suc n) zero = omega arith
+replicate-most (suc n) (suc i) = replicate-most n i
 
+-- no number of a row is above its column's largest
 module _ (text : List ℕ) where
   cell-fits : (most at : ℕ) (word : List ℕ) → IfOk (cell_at most text at word) (λ x. x.value ≤ most)
   unfolding cell_at
@@ -221,24 +224,29 @@ module _ (text : List ℕ) where
       go None f = tt
       go (Some x) f = behind x f (word_at text x.next word)
 
-  narrow_from : (numbers : List ℕ) (n at : ℕ) → Narrow numbers
-      → IfOk (row_from text numbers (replicate n largest) at) (λ row. Narrow row.value)
+  row_within : (past numbers mosts : List ℕ) (at : ℕ) → Within past numbers
+      → IfOk (row_from text numbers mosts at) (λ row. Within (past ++ mosts) row.value)
   unfolding row_from
-  narrow_from numbers zero at h = h
-  narrow_from numbers (suc n) at h =
-      go (cell_at largest text at (ending (length (replicate n largest))))
-      (cell-fits largest at (ending (length (replicate n largest))))
-      (λ x f. narrow_from (numbers ++ (x.value ∷ [])) n x.next (narrow_more numbers x.value f h))
+  row_within past numbers [] at w = rw (append-nil past) w
+  row_within past numbers (most ∷ mosts) at w =
+      go (cell_at most text at (ending (length mosts))) (cell-fits most at (ending (length mosts)))
+      (λ x f. rw append_assoc at
+      (row_within (past ++ (most ∷ [])) (numbers ++ (x.value ∷ [])) mosts x.next (within_snoc w f)))
     where
-      go : (r : Result (Piece ℕ) Offset) → IfOk r (λ x. x.value ≤ largest)
-          → ((x : Piece ℕ) → x.value ≤ largest
-          → IfOk (row_from text (numbers ++ (x.value ∷ [])) (replicate n largest) x.next) (λ row. Narrow row.value))
+      go : (r : Result (Piece ℕ) Offset) → IfOk r (λ x. x.value ≤ most)
+          → ((x : Piece ℕ) → x.value ≤ most
+          → IfOk (row_from text (numbers ++ (x.value ∷ [])) mosts x.next)
+          (λ row. Within (past ++ (most ∷ mosts)) row.value))
           → IfOk (elim r as (λ r. Result (Piece (List ℕ)) Offset) [
-            | Ok x ↦ row_from text (numbers ++ (x.value ∷ [])) (replicate n largest) x.next
+            | Ok x ↦ row_from text (numbers ++ (x.value ∷ [])) mosts x.next
             | Err offset ↦ Err offset
-          ]) (λ row. Narrow row.value)
+          ]) (λ row. Within (past ++ (most ∷ mosts)) row.value)
       go (Ok x) f known = known x f
       go (Err offset) f known = tt
 
+  pub row-most : (mosts : List ℕ) (at : ℕ) (x : Piece (List ℕ)) → Ok x ≡ row_from text [] mosts at
+      → (i : ℕ) → get_or x.value i 0 ≤ get_or mosts i 0
+  row-most mosts at x e i = within_get_d (rw (← e) at (row_within [] [] mosts at Forms.none)) i
+
   pub row-narrow : (n at : ℕ) (x : Piece (List ℕ)) → Ok x ≡ row_from text [] (replicate n largest) at → Narrow x.value
-  row-narrow n at x e = rw (← e) at (narrow_from [] n at (λ i. omega arith))
+  row-narrow n at x e i = le_trans (row-most (replicate n largest) at x e i) (replicate-most n i)

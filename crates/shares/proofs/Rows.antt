@@ -1,11 +1,11 @@
 -- Laws of the listing's rows, for the loops over them: those of one task, and those of all.
-use Prim.Native.Nat.{ℕ, suc, ◌+◌, ◌-◌, ◌<◌, ◌≤◌}
+use Prim.Native.Nat.{ℕ, suc, ◌+◌, ◌-◌, ◌*◌, ◌<◌, ◌≤◌}
 use mathlib.Core.Path.{◌≡◌, refl, sym, ap, ◌∙◌}
 use mathlib.Core.Bool.{true}
 use mathlib.Core.List.{List, [], ◌∷◌, ◌++◌, append_assoc, flatten}
 use native.Mathlib.Omega.{arith}
 use borrow.Author.Tests.{le-leb}
-use lib.ListN.{drop, drop_of_length-le}
+use lib.ListN.{length, drop, get_or, drop_of_length-le}
 use lib.Seq.{drop-cons}
 use Rattle.maths.specs.Tasks.{tabulate}
 use Rattle.maths.proofs.Tasks.{length-tabulate, get_d_tabulate}
@@ -17,6 +17,7 @@ use Rattle.admission.specs.Shares.{share_answer}
 use Rattle.texts.proofs.Listings.{header_of, listing-split}
 use Rattle.shares.specs.Explain.{pair_row, pair_rows, pairs_text}
 use Rattle.shares.specs.Code.Pairs.{task_text}
+use Rattle.shares.proofs.Grids.{length-grid, get_d_grid}
 
 abbrev pub header : List ℕ
 header = header_of "task,other,interference,weight,share"
@@ -71,6 +72,13 @@ module _ (t : Table) where
 
   pub pairs_split : pairs_text t ≡ header ++ pairs_from 1
   pairs_split = listing-split (pair_rows t) "task,other,interference,weight,share"
+
+  -- how many rows there are, and which pair has which
+  pub pairs-length : length (pair_rows t) ≡ t.n * t.n
+  pairs-length = length-grid (pair_row t) t.n t.n
+
+  pub row_at : (q r : ℕ) → q < t.n → r < t.n → get_or (pair_rows t) (q * t.n + r) [] ≡ pair_row t (suc q) (suc r)
+  row_at q r = get_d_grid (pair_row t) t.n t.n q r []
 
   -- from the answer for tasks k and i
   pub row_is : unrefused t ≡ true → (k i : ℕ) → 1 ≤ k → k ≤ t.n → 1 ≤ i → i ≤ t.n → (x : Share) → x ≡ share_answer t k i

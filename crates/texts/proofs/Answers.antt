@@ -1,5 +1,6 @@
--- An answer's listing and an answer's number, from what is found of the table without a C record.
-use Prim.Native.Nat.{ℕ, zero, suc, ◌≤◌}
+-- An answer's listing and an answer's number, by whether the table is refused, and from what is found of the table
+-- without a C record.
+use Prim.Native.Nat.{ℕ, zero, suc, ◌+◌, ◌≤◌}
 use mathlib.Core.Path.{◌≡◌, refl}
 use mathlib.Core.Bool.{Bool, true, false, cond}
 use mathlib.Core.List.{List}
@@ -14,14 +15,32 @@ use Rattle.table.specs.declared.Refusal.{Refusal}
 use Rattle.table.specs.declared.Table.{Table}
 use Rattle.table.specs.Limits.{most_tasks}
 use Rattle.table.specs.Refused.{refusal}
+use Rattle.admission.specs.declared.FullAnswer.{FullAnswer}
+use Rattle.admission.specs.declared.QuickAnswer.{QuickAnswer}
 use Rattle.admission.specs.Answers.{task_found, first_answer, margins_answer, full_answer, quick_answer}
 use Rattle.admission.specs.Test.{first_failing}
 use Rattle.admission.proofs.Answers.{first-le, quick_unrefused}
 use Rattle.admission.proofs.Found.{value-answered, refused_of}
 use Rattle.writers.specs.Outputs.{refused_text, margins_text}
-use Rattle.texts.specs.Admit.{judged}
-use Rattle.texts.specs.Verdict.{quick_number}
+use Rattle.texts.specs.Admit.{answer_text, judged}
+use Rattle.texts.specs.Verdict.{numbered, quick_number}
 use Rattle.texts.specs.Code.Numbers.{verdict_number}
+
+pub answer-refused : (n : ℕ) (a : FullAnswer) → (a.refused.number ≡ 0 → ⊥) → answer_text n a ≡ refused_text a.refused
+answer-refused n a h = rw (ne_eqb a.refused.number 0 h)
+
+pub answer-margins : (n : ℕ) (a : FullAnswer) → a.refused.number ≡ 0 → answer_text n a ≡ margins_text n a.margins
+answer-margins n a h = rw (eq-eqb a.refused.number 0 h)
+
+pub numbered-refused : (a : QuickAnswer) → (a.refused.number ≡ 0 → ⊥) → numbered a ≡ a.refused.number
+numbered-refused a h = rw (ne_eqb a.refused.number 0 h)
+
+module _ (a : QuickAnswer) (none : a.refused.number ≡ 0) where
+  pub numbered-admitted : a.first ≡ 0 → numbered a ≡ 0
+  numbered-admitted h = rw (eq-eqb a.refused.number 0 none, eq-eqb a.first 0 h)
+
+  pub numbered-failing : (a.first ≡ 0 → ⊥) → numbered a ≡ 100 + a.first
+  numbered-failing h = rw (eq-eqb a.refused.number 0 none, ne_eqb a.first 0 h)
 
 module _ (t : Table) where
   pub judged-margins : (margins : List ℤ) → Ok margins ≡ margins_answer t → margins_text t.n margins ≡ judged t

@@ -57,16 +57,21 @@ module _ {before : Cell} {n rest : ℕ} {bytes : List ℕ} {at : ℕ} (s : Spell
         size = length-set bytes (at - 1) byte ∙ size;
       }
 
-  pub spelling_end : {c d : Cell} → rest < 10 → c.bytes ≡ bytes → c.from ≡ at → Prefixed c ((48 + rest) ∷ []) d
+  pub spelling_end : {d : Cell} → rest < 10 → d.bytes ≡ set bytes (at - 1) (48 + rest) → d.from ≡ at - 1
       → Prefixed before (digits n) d
-  spelling_end {c} {d} one same here p =
+  spelling_end one same here =
       let last = width_one rest one in
-      let push = p.place in
       let place = s.place in
+      let within = s.within in
+      let size = s.size in
+      let some = spelling_room in
+      let byte = 48 + rest in
+      let back : at - 1 + 1 ≡ at = omega arith in
+      let first = drop-set bytes (at - 1) byte (omega arith) ∙ ap (λ k. byte ∷ drop k bytes) back in
       record {
         holds =
-            p.holds
-            ∙ (λ i. (48 + rest) ∷ drop (here i) (same i))
+            (λ i. drop (here i) (same i))
+            ∙ first
             ∙ ap (λ l. l ++ drop at bytes) (sym (one-digit rest one))
             ∙ s.spelt;
         place = omega arith;

@@ -1,5 +1,6 @@
 -- Two results that a writer's statement allows are equal, and so is what they leave in the buffers: whatever the text.
-use Rattle.std.proofs.Common.{◌≡◌, ℕ, Bool, Option, Some, List, leb, length, sym, ◌∙◌}
+use Rattle.std.proofs.Common.{◌≡◌, ℕ, Bool, Option, Some, None, List, leb, length, refl, sym, ◌∙◌, subst}
+use Rattle.std.specs.Prelude.{IfNone}
 use Rattle.maths.proofs.Determined.{determined, determined-both}
 use Rattle.writers.specs.declared.Written.{Written}
 use Rattle.writers.specs.declared.TextsWritten.{TextsWritten}
@@ -25,6 +26,20 @@ module _ {S : Type 0} (room : S → ℕ) (put : S → List ℕ → S) (before : 
     determined _ r s p.fits q.fits,
     λ e. p.holds e ∙ sym (q.holds (sym (determined _ r s p.fits q.fits) ∙ e)),
   )
+
+  -- of a word, which leaves the place as it was where it has no room
+  pub word_determined : IfNone r (a ≡ before) → IfNone s (b ≡ before) → (r ≡ s) × (a ≡ b)
+  word_determined k m =
+      let same = determined _ r s p.fits q.fits in (
+        same,
+        after r p (subst (λ o. Took room put before text o b) (sym same) q) k
+            (subst (λ o. IfNone o (b ≡ before)) (sym same) m),
+      )
+    where
+      after : (o : Option Unit) → Took room put before text o a → Took room put before text o b
+          → IfNone o (a ≡ before) → IfNone o (b ≡ before) → a ≡ b
+      after (Some tt) f g k m = f.holds refl ∙ sym (g.holds refl)
+      after None f g k m = k ∙ sym m
 
 pub added_determined : (buffer : List ℕ) (at : ℕ) (text : List ℕ) (r s : ℕ) (a b : List ℕ)
     → Added buffer at text r a → Added buffer at text s b → (r ≡ s) × (a ≡ b)

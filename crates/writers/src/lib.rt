@@ -23,9 +23,21 @@ pub trait Sink {
     // what it is once some bytes are put there
     ghost put: { Self → List ℕ → Self };
 
-    // The word, or none of it where it has no room: both places below are then as they were.
+    // The word, or none of it where it has no room: the place is then as it was.
     fn word(&mut self, word: &[u8]) -> Option<()>
-        ensures { Took room put self.old word.now result self.new };
+        ensures took { Took room put self.old word.now result self.new }
+        ensures kept { IfNone result (self.new ≡ self.old) };
+
+    // A number and what ends it, where so many more follow in its row, as one word.
+    fn cell(&mut self, n: u64, left: usize) -> Option<()>
+        ensures took { Took room put self.old (digits n ++ ending left) result self.new }
+        ensures kept { IfNone result (self.new ≡ self.old) }
+    {
+        let mut cell = Cell::empty();
+        cell.push_ending(left);
+        cell.push_digits(n);
+        self.word(&cell.bytes[cell.from..])
+    }
 
     ghost laws: { SinkLaws room put };
 }
@@ -50,6 +62,36 @@ impl Sink for Measure {
         self.left = self.left.checked_sub(word.len())?;
         Some(())
     }
+
+    // Counted and not made: the digits of what is measured are made when it is written (docs/LOOK-BACK.md, d).
+    fn cell(&mut self, n: u64, left: usize) -> Option<()>
+        ensures took { Took room_left measured self.old (digits n ++ ending left) result self.new }
+        ensures kept { IfNone result (self.new ≡ self.old) }
+    {
+        self.left = self.left.checked_sub(width(n) + ending_width(left))?;
+        Some(())
+    }
+}
+
+// How many digits a number has: found on the way, so no `for`.
+fn width(n: u64) -> usize
+    ensures { result ≡ length (digits n) }
+{
+    let mut w: usize = 1;
+    let mut rest = n;
+    while 10 <= rest {
+        w += 1;
+        rest /= 10;
+    }
+    w
+}
+
+// How many bytes end a number that so many follow in its row.
+fn ending_width(left: usize) -> usize
+    ensures is { result ≡ length (ending left) }
+    ensures few { result ≤ 2 }
+{
+    if left == 0 { 2 } else { 1 }
 }
 
 // A place in a buffer.
@@ -230,22 +272,20 @@ impl Cell {
             self.bytes[at] = b'0' + (rest % 10) as u8;
             rest /= 10;
         }
+        at -= 1;
+        self.bytes[at] = b'0' + rest as u8;
         self.from = at;
-        self.push(b'0' + rest as u8);
     }
 }
 
 // The longest row of five numbers: each of at most 20 digits and a comma, and CR LF behind the last.
 pub const ROW_OF_FIVE: usize = 5 * (Cell::MOST - 1) + 1;
 
-// A number and what ends it, where so many more follow in its row. The cell's bytes are moved only into the sink.
+// A number and what ends it, where so many more follow in its row.
 fn put_cell<S: Sink>(n: u64, left: usize, sink: &mut S) -> Option<()>
     ensures { Took S.room S.put sink.old (digits n ++ ending left) result sink.new }
 {
-    let mut cell = Cell::empty();
-    cell.push_ending(left);
-    cell.push_digits(n);
-    sink.word(&cell.bytes[cell.from..])
+    sink.cell(n, left)
 }
 
 // A row of the numbers.

@@ -8,7 +8,7 @@ pub returns-in_err-word : goal.returns-in_err-word
 returns-in_err-word g c =
     let self = c.args.self.now in
     let comes = run_split self.machine (ticks_in self.text.now) in
-    walk_halt g.met.S.Sink.laws _ _ comes c.in_err-word.ensures c.from_residual.ensures
+    walk_halt g.met.S.Sink.laws _ _ comes c.in_err-word.ensures.took c.from_residual.ensures
 
 pub loop-init : goal.loop-init
 loop-init g c =
@@ -16,7 +16,7 @@ loop-init g c =
     let comes = run_split self.machine (ticks_in self.text.now) in (
       ticks_in self.text.now,
       going_start self.text.now self.count self.machine self.counted,
-      walk_head g.met.S.Sink.laws _ _ comes c.in_ok-word.ensures,
+      walk_head g.met.S.Sink.laws _ _ comes c.in_ok-word.ensures.took,
     )
 
 pub on-requires : goal.on-requires

@@ -6,12 +6,12 @@ use Rattle.shares.proofs.PairsText.put.Goals as goal
 pub returns-in_err-word : goal.returns-in_err-word
 returns-in_err-word g c =
     let comes = pairs_split c.args.self.now.table.now in
-    walk_halt g.met.S.Sink.laws _ _ comes c.in_err-word.ensures c.from_residual.ensures
+    walk_halt g.met.S.Sink.laws _ _ comes c.in_err-word.ensures.took c.from_residual.ensures
 
 pub loop-k-init : goal.loop-k-init
 loop-k-init g c =
     let comes = pairs_split c.args.self.now.table.now in
-    walk_head g.met.S.Sink.laws _ _ comes c.in_ok-word.ensures
+    walk_head g.met.S.Sink.laws _ _ comes c.in_ok-word.ensures.took
 
 pub returns-in_ok-word : goal.returns-in_ok-word
 returns-in_ok-word g c =

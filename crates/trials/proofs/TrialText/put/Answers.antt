@@ -5,12 +5,13 @@ use Rattle.trials.proofs.TrialText.put.Goals as goal
 pub returns-in_err-word : goal.returns-in_err-word
 returns-in_err-word g c =
     let self = c.args.self.now in
-    walk_halt g.met.S.Sink.laws _ _ (trial_split self.n self.rehearsal) c.in_err-word.ensures c.from_residual.ensures
+    walk_halt g.met.S.Sink.laws _ _ (trial_split self.n self.rehearsal) c.in_err-word.ensures.took
+    c.from_residual.ensures
 
 pub loop-i-init : goal.loop-i-init
 loop-i-init g c =
     let self = c.args.self.now in
-    walk_head g.met.S.Sink.laws _ _ (trial_split self.n self.rehearsal) c.in_ok-word.ensures
+    walk_head g.met.S.Sink.laws _ _ (trial_split self.n self.rehearsal) c.in_ok-word.ensures.took
 
 pub returns-in_err-put_row : goal.returns-in_err-put_row
 returns-in_err-put_row g c =

@@ -11,8 +11,8 @@ overflow_sub-at c = spelling_room c.loop-rest.invariant
 pub loop-rest-preserved : goal.loop-rest-preserved
 loop-rest-preserved c = spelling_more c.loop-rest.invariant c.loop-rest-test.true
 
-pub push-requires : goal.push-requires
-push-requires c = spelling_room c.loop-rest.invariant
+pub overflow_sub-at-2 : goal.overflow_sub-at-2
+overflow_sub-at-2 c = spelling_room c.loop-rest.invariant
 
 pub returns : goal.returns
-returns c = spelling_end c.loop-rest.invariant (omega (arith, c.loop-rest-test.false)) refl refl c.push.ensures
+returns c = spelling_end c.loop-rest.invariant (omega (arith, c.loop-rest-test.false)) refl refl

@@ -9,7 +9,7 @@ use Rattle.writers.proofs.MarginsText.put.Goals as goal
 
 pub returns-in_err-word : goal.returns-in_err-word
 returns-in_err-word g c =
-    walk_halt g.met.S.Sink.laws _ _ (margins-split most_tasks _) c.in_err-word.ensures c.from_residual.ensures
+    walk_halt g.met.S.Sink.laws _ _ (margins-split most_tasks _) c.in_err-word.ensures.took c.from_residual.ensures
 
 pub loop-i-init : goal.loop-i-init
 loop-i-init g c =
@@ -21,7 +21,7 @@ loop-i-init g c =
     let rest =
     ap (λ i. i.iter.iter.rest.now) is ∙ ap (λ i. i.iter.rest.now) all.source
     ∙ ap (λ i. i.rest.now) taken.source ∙ c.iter.ensures.rest in
-    rw (count, n, rest) (walk_head g.met.S.Sink.laws _ _ (margins-split most_tasks _) c.in_ok-word.ensures)
+    rw (count, n, rest) (walk_head g.met.S.Sink.laws _ _ (margins-split most_tasks _) c.in_ok-word.ensures.took)
 
 pub returns-in_err-put_row : goal.returns-in_err-put_row
 returns-in_err-put_row g c =

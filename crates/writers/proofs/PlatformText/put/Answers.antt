@@ -6,10 +6,10 @@ use Rattle.writers.proofs.PlatformText.put.Goals as goal
 
 pub returns-in_err-word : goal.returns-in_err-word
 returns-in_err-word g c =
-    walk_halt g.met.S.Sink.laws _ _ (one-text platform_form _) c.in_err-word.ensures c.from_residual.ensures
+    walk_halt g.met.S.Sink.laws _ _ (one-text platform_form _) c.in_err-word.ensures.took c.from_residual.ensures
 
 pub returns : goal.returns
 returns g c =
     let laws = g.met.S.Sink.laws in
-    let first = walk_head laws _ _ (one-text platform_form (platform_row c.args.self.now)) c.in_ok-word.ensures in
+    let first = walk_head laws _ _ (one-text platform_form (platform_row c.args.self.now)) c.in_ok-word.ensures.took in
     walk_last laws first (rw (c.from.ensures, c.from-2.ensures) at c.put_row.ensures)

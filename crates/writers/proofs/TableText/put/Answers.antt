@@ -8,7 +8,7 @@ use Rattle.writers.proofs.TableText.put.Goals as goal
 
 pub returns-in_err-word : goal.returns-in_err-word
 returns-in_err-word g c =
-    walk_halt g.met.S.Sink.laws _ _ (text-split tasks_form _) c.in_err-word.ensures c.from_residual.ensures
+    walk_halt g.met.S.Sink.laws _ _ (text-split tasks_form _) c.in_err-word.ensures.took c.from_residual.ensures
 
 pub loop-task-init : goal.loop-task-init
 loop-task-init g c =
@@ -16,7 +16,7 @@ loop-task-init g c =
     let taken = c.take-task-items.ensures in
     let n = ap (λ i. i.n) is ∙ taken.count in
     let rest = ap (λ i. i.iter.rest.now) is ∙ ap (λ i. i.rest.now) taken.source ∙ c.iter.ensures.rest in
-    rw (n, rest) (walk_head g.met.S.Sink.laws _ _ (text-split tasks_form _) c.in_ok-word.ensures)
+    rw (n, rest) (walk_head g.met.S.Sink.laws _ _ (text-split tasks_form _) c.in_ok-word.ensures.took)
 
 pub returns-in_err-put_row : goal.returns-in_err-put_row
 returns-in_err-put_row g c =

@@ -7,7 +7,7 @@ use Rattle.writers.proofs.TicksText.put.Goals as goal
 
 pub returns-in_err-word : goal.returns-in_err-word
 returns-in_err-word g c =
-    walk_halt g.met.S.Sink.laws _ _ (text-split ticks_form _) c.in_err-word.ensures c.from_residual.ensures
+    walk_halt g.met.S.Sink.laws _ _ (text-split ticks_form _) c.in_err-word.ensures.took c.from_residual.ensures
 
 pub loop-r-init : goal.loop-r-init
 loop-r-init g c =
@@ -15,7 +15,7 @@ loop-r-init g c =
     let zipped = c.zip-r-items.ensures in
     let released = ap (λ i. i.a.rest.now) is ∙ ap (λ a. a.rest.now) zipped.first ∙ c.iter.ensures.rest in
     let finished = ap (λ i. i.b.rest.now) is ∙ zipped.second.0 in
-    rw (released, finished) (walk_head g.met.S.Sink.laws _ _ (text-split ticks_form _) c.in_ok-word.ensures)
+    rw (released, finished) (walk_head g.met.S.Sink.laws _ _ (text-split ticks_form _) c.in_ok-word.ensures.took)
 
 pub returns-in_err-put_row : goal.returns-in_err-put_row
 returns-in_err-put_row g c =

@@ -1,8 +1,9 @@
 -- Laws of the listing's rows, for the loops over them: those of one task, and those of all.
-use Prim.Native.Nat.{ℕ, suc, ◌+◌, ◌-◌, ◌*◌, ◌<◌, ◌≤◌}
+use Prim.Native.Nat.{ℕ, suc, ◌+◌, ◌-◌, ◌*◌, ◌/◌, ◌%◌, ◌<◌, ◌≤◌}
 use mathlib.Core.Path.{◌≡◌, refl, sym, ap, ◌∙◌}
 use mathlib.Core.Bool.{true}
 use mathlib.Core.List.{List, [], ◌∷◌, ◌++◌, append_assoc, flatten}
+use native.Mathlib.Nat.{div-add-mod', div-lt_iff_lt-mul, mod-lt}
 use native.Mathlib.Omega.{arith}
 use borrow.Author.Tests.{le-leb}
 use lib.ListN.{length, drop, get_or, drop_of_length-le}
@@ -77,8 +78,17 @@ module _ (t : Table) where
   pub pairs-length : length (pair_rows t) ≡ t.n * t.n
   pairs-length = length-grid (pair_row t) t.n t.n
 
-  pub row_at : (q r : ℕ) → q < t.n → r < t.n → get_or (pair_rows t) (q * t.n + r) [] ≡ pair_row t (suc q) (suc r)
-  row_at q r = get_d_grid (pair_row t) t.n t.n q r []
+  module _ (some : 0 < t.n) (at : ℕ) (l : at < t.n * t.n) where
+    pub task-at : at / t.n < t.n
+    task-at = (div-lt_iff_lt-mul some).1 l
+
+    pub other_at : at % t.n < t.n
+    other_at = mod-lt at some
+
+    pub row_at : get_or (pair_rows t) at [] ≡ pair_row t (suc (at / t.n)) (suc (at % t.n))
+    row_at =
+        ap (λ (j : ℕ). get_or (pair_rows t) j []) (sym (div-add-mod' at t.n))
+        ∙ get_d_grid (pair_row t) t.n t.n (at / t.n) (at % t.n) [] task-at other_at
 
   -- from the answer for tasks k and i
   pub row_is : unrefused t ≡ true → (k i : ℕ) → 1 ≤ k → k ≤ t.n → 1 ≤ i → i ≤ t.n → (x : Share) → x ≡ share_answer t k i

@@ -1,7 +1,9 @@
 -- Laws of a text's rows, for the loops over them.
 use Rattle.std.proofs.Common.{◌≡◌, ℕ, zero, suc, ◌+◌, ◌<◌, List, [], ◌∷◌, ◌++◌, map, length, take, ◌⊎◌, inl}
-use Rattle.std.proofs.Common.{inr}
+use Rattle.std.proofs.Common.{inr, min, ◌≤◌}
 use Rattle.std.proofs.Common.{refl, ap, sym, ◌∙◌, arith, add-one}
+use Rattle.std.proofs.lemmas.List.{take_all}
+use native.Mathlib.Decide.{dec_le}
 use Rattle.forms.specs.Forms.{line, lines}
 use lib.IntN.{ℤ}
 use Rattle.forms.specs.Bytes.{bytes}
@@ -52,6 +54,16 @@ pub margins_more : {zs ys : List ℤ} {z : ℤ} {n i k l : ℕ} (m : ℕ) → zs
     → margin_lines (suc k) (take n zs) ≡ margin_row (i + 1) (margin_of z) ++ margin_lines (suc l) (take m ys)
 unfolding margin_lines
 margins_more {i = i} m e h at on = rw (e, sym h, on, sym at, add-one m, add-one i) refl
+
+-- no more rows than there are margins
+pub margins-held : (margins : List ℤ) (n rows : ℕ) → rows ≡ min n (length margins)
+    → margins_text n margins ≡ margins_text rows margins
+unfolding margins_text
+margins-held margins n rows e = go (dec_le n (length margins))
+  where
+    go : Dec (n ≤ length margins) → margins_text n margins ≡ margins_text rows margins
+    go (yes l) = let f : rows ≡ n = omega arith in rw f refl
+    go (no g) = rw (take_all n margins (omega arith), take_all rows margins (omega arith)) refl
 
 pub margins_end : (zs : List ℤ) (n k : ℕ) → (0 < n → length zs ≡ 0) → margin_lines k (take n zs) ≡ []
 unfolding margin_lines

@@ -13,7 +13,7 @@ ghost use Rattle.runs.specs.Code.Runs.{ticks_in, CountedTicks, run_on, line_on, 
 use machine::Machine;
 use table::{Refusal, Table};
 use texts::UnitTexts;
-use writers::{Sink, Text, Written};
+use writers::{Bounded, Sink, Text, Written};
 
 const HEADER: &[u8] = b"tick,refused,finished,late,started\r\n";
 
@@ -84,6 +84,10 @@ impl Text for AnsweredTicks<'_> {
         }
         Some(())
     }
+}
+
+impl Bounded for AnsweredTicks<'_> {
+    ghost bound = { λ l. listing_most l.count };
 
     // Where the longest listing of so many ticks has room, and nowhere else, the ticks are not run to measure theirs.
     fn surely_fits(&self, room: usize) -> bool
@@ -123,7 +127,7 @@ pub fn ticks(unit: UnitTexts, ticks: Option<&[u8]>, out: &mut [u8]) -> Written
                 text,
                 count,
             };
-            writers::write(&listing, out)
+            writers::write_bounded(&listing, out)
         }
         Err(refusal) => writers::write_refused(refusal, out),
     }

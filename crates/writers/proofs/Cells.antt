@@ -19,12 +19,15 @@ pub record Spelling (before : Cell) (n rest : ℕ) (bytes : List ℕ) (at : ℕ)
   pub size : length bytes ≡ 22
 
 -- a u64 has at most 20 digits
+pub width_room : (n : ℕ) → n < 2 ^ 64 → length (digits n) ≤ 20
+width_room n fits = width_most 19 n (lt_of_lt_of_le fits (lit≤ tt))
+
 pub spelling_start : (c : Cell) (n : ℕ) → n < 2 ^ 64 → 20 ≤ c.from → c.from ≤ 22 → length c.bytes ≡ 22
     → Spelling c n n c.bytes c.from
 spelling_start c n fits room within size = record {
   spelt = refl;
   place = refl;
-  room = let most = width_most 19 n (lt_of_lt_of_le fits (lit≤ tt)) in omega arith;
+  room = omega (arith, width_room n fits);
   within = within;
   size = size;
 }

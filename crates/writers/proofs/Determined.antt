@@ -52,3 +52,6 @@ room_determined text room = determined (room_for text room)
 pub fits_determined : (text : List ℕ) (room : ℕ) (r s : Bool) → r ≡ leb (length text) room → s ≡ leb (length text) room
     → r ≡ s
 fits_determined text room = determined (leb (length text) room)
+
+pub surely_determined : (bound room : ℕ) (r s : Bool) → r ≡ leb bound room → s ≡ leb bound room → r ≡ s
+surely_determined bound room = determined (leb bound room)

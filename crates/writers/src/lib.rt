@@ -128,13 +128,16 @@ pub trait Text {
 
     fn put<S: Sink>(&self, sink: &mut S) -> Option<()>
         ensures { Took S.room S.put sink.old (bytes self.now) result sink.new };
+}
 
-    // Whether the text has so much room for sure: where that is told without the walk, it is not measured.
+// What has a text whose length has a bound that is told without the walk.
+pub trait Bounded: Text {
+    ghost bound: { Self → ℕ };
+
+    // Whether the bound has so much room, and the text for sure.
     fn surely_fits(&self, room: usize) -> bool
-        ensures { result ≡ true → length (bytes self.now) ≤ room }
-    {
-        false
-    }
+        ensures fits { result ≡ true → length (Self.bytes self.now) ≤ room }
+        ensures exact { result ≡ leb (bound self.now) room };
 }
 
 // C's record, as is that of two texts: refusal 0 and the length stand for Ok, the refusal and 0 for Err. No Result: the
@@ -196,10 +199,20 @@ fn write_fitting<T: Text>(text: &T, buf: &mut [u8]) -> Written
 pub fn write<T: Text>(text: &T, buf: &mut [u8]) -> Written
     ensures { Wrote (T.bytes text.now) buf.old result buf.new }
 {
-    if !text.surely_fits(buf.len()) && !fits(text, buf.len()) {
+    if !fits(text, buf.len()) {
         return Written::short();
     }
     write_fitting(text, buf)
+}
+
+// The same, and the text is measured only where the bound has no room.
+pub fn write_bounded<T: Bounded>(text: &T, buf: &mut [u8]) -> Written
+    ensures { Wrote (T.bytes text.now) buf.old result buf.new }
+{
+    if text.surely_fits(buf.len()) {
+        return write_fitting(text, buf);
+    }
+    write(text, buf)
 }
 
 // The text at a place of the buffer, if it has room there, and the place behind it.

@@ -12,7 +12,7 @@ pub returns-in-Ok : goal.returns-in-Ok
 unfolding ticks_text
 returns-in-Ok c =
     let b = begun _ (option_copied c.args.ticks) _ _ c.in-Ok.ensures in
-    rw b.listed (rw (c.unwrap_or-text.ensures, there-is c.args.ticks _ b.text b.there) at c.write.ensures)
+    rw b.listed (rw (c.unwrap_or-text.ensures, there-is c.args.ticks _ b.text b.there) at c.write_bounded.ensures)
 
 pub returns-in-Err : goal.returns-in-Err
 unfolding ticks_text

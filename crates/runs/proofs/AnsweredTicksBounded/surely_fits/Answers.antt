@@ -4,7 +4,7 @@ use native.Mathlib.Omega.{arith}
 use borrow.Author.Tests.{leb-true}
 use Rattle.runs.specs.Ticks.{listing_most}
 use Rattle.runs.proofs.Widths.{run-most}
-use Rattle.runs.proofs.AnsweredTicksText.surely_fits.Goals as goal
+use Rattle.runs.proofs.AnsweredTicksBounded.surely_fits.Goals as goal
 
 pub returns-clause-fits : goal.returns-clause-fits
 returns-clause-fits c = λ e.

@@ -195,24 +195,30 @@ fn write_fitting<T: Text>(text: &T, buf: &mut [u8]) -> Written
     Written::whole(cursor.at)
 }
 
+// The text, where it is known whether the buffer has room for it.
+fn write_if<T: Text>(fits: bool, text: &T, buf: &mut [u8]) -> Written
+    requires { fits ≡ leb (length (T.bytes text.now)) (length buf.old) }
+    ensures { Wrote (T.bytes text.now) buf.old result buf.new }
+{
+    if !fits {
+        return Written::short();
+    }
+    write_fitting(text, buf)
+}
+
 // The text, where the buffer has room for it.
 pub fn write<T: Text>(text: &T, buf: &mut [u8]) -> Written
     ensures { Wrote (T.bytes text.now) buf.old result buf.new }
 {
-    if !fits(text, buf.len()) {
-        return Written::short();
-    }
-    write_fitting(text, buf)
+    write_if(fits(text, buf.len()), text, buf)
 }
 
 // The same, and the text is measured only where the bound has no room.
 pub fn write_bounded<T: Bounded>(text: &T, buf: &mut [u8]) -> Written
     ensures { Wrote (T.bytes text.now) buf.old result buf.new }
 {
-    if text.surely_fits(buf.len()) {
-        return write_fitting(text, buf);
-    }
-    write(text, buf)
+    let room = buf.len();
+    write_if(text.surely_fits(room) || fits(text, room), text, buf)
 }
 
 // The text at a place of the buffer, if it has room there, and the place behind it.

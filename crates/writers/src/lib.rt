@@ -130,11 +130,11 @@ pub trait Text {
         ensures { Took S.room S.put sink.old (bytes self.now) result sink.new };
 }
 
-// What has a text whose length has a bound that is told without the walk.
+// What has a text that is never longer than a bound, which is told without the walk.
 pub trait Bounded: Text {
     ghost bound: { Self → ℕ };
 
-    // Whether the bound has so much room, and the text for sure.
+    // Whether there is so much room as the bound: the text then fits.
     fn surely_fits(&self, room: usize) -> bool
         ensures fits { result ≡ true → length (Self.bytes self.now) ≤ room }
         ensures exact { result ≡ leb (bound self.now) room };
@@ -213,7 +213,7 @@ pub fn write<T: Text>(text: &T, buf: &mut [u8]) -> Written
     write_if(fits(text, buf.len()), text, buf)
 }
 
-// The same, and the text is measured only where the bound has no room.
+// The same, and the text is measured only where there is less room than its bound.
 pub fn write_bounded<T: Bounded>(text: &T, buf: &mut [u8]) -> Written
     ensures { Wrote (T.bytes text.now) buf.old result buf.new }
 {

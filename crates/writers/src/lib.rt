@@ -130,11 +130,11 @@ pub trait Text {
         ensures { Took S.room S.put sink.old (bytes self.now) result sink.new };
 }
 
-// What has a text that is never longer than a bound, which is told without the walk.
+// What has a text with a bound, which is told without the walk.
 pub trait Bounded: Text {
     ghost bound: { Self → ℕ };
 
-    // Whether there is so much room as the bound: the text then fits.
+    // Whether there is as much room as the bound: then the text fits.
     fn surely_fits(&self, room: usize) -> bool
         ensures fits { result ≡ true → length (Self.bytes self.now) ≤ room }
         ensures exact { result ≡ leb (bound self.now) room };
